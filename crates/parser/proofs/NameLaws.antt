@@ -119,7 +119,7 @@ later-within n i (At k) r t p = let e : i ≡ k + 1 = cc in omega (arith, r k re
 later-within n i Nothing r true p = let e : i ≡ 0 = cc in omega arith
 later-within n i Nothing r false p = absurd (let z : _≡_ {A = ℕ} 0 1 = cc in omega arith)
 
-last-within : (b : ℕ) (t : List ℕ) (i : ℕ) → At i ≡ lastOf b t → i < length t
+pub last-within : (b : ℕ) (t : List ℕ) (i : ℕ) → At i ≡ lastOf b t → i < length t
 unfolding lastOf
 last-within b [] i q = absurd (let z : _≡_ {A = ℕ} 0 1 = cc in omega arith)
 last-within b (x ∷ xs) i q = later-within (length xs) i (lastOf b xs) (last-within b xs) (eqb x b) q

@@ -1,0 +1,64 @@
+-- The member `bound`.
+use Prim.Native.Nat.{ℕ}
+use borrow.Author.Needs.{needs}
+use mathlib.Core.Path.{refl}
+use Rattle.printer.proofs.CycleLaws.{name-laws, name-next}
+use Rattle.printer.proofs.WithinLaws.{ident-within}
+use Rattle.printer.proofs.cycle.+adt+aim+alts+arg+args+arr+arw+back+bare+bind+binds+body+bond+bound+brac+con+dyns+fld+flds+func+gens+imp+list+mty+nest+oaim+oback+obj+ogen+on+onto+opath+ors+part+pat+path+ptr+qself+range+refc+refd+refer+refk+ret+seq+shut+sig+size+sub+trt+tup+ty+vars.Lts-bound as bound-lts
+use Rattle.printer.proofs.cycle.bound.Reads as bound
+use Rattle.printer.proofs.cycle.onto.Reads as onto
+use Rattle.parser.proofs.names.ident.Reads as ident-reads
+use Rattle.printer.proofs.leaf.bind_name.Reads as bind-name-reads
+use Rattle.printer.proofs.state.moved.Reads as moved-reads
+use Rattle.printer.proofs.text.invalid.Reads as invalid-reads
+use Rattle.printer.proofs.text.word.Reads as word-reads
+use Rattle.printer.proofs.cycle.+adt+aim+alts+arg+args+arr+arw+back+bare+bind+binds+body+bond+bound+brac+con+dyns+fld+flds+func+gens+imp+list+mty+nest+oaim+oback+obj+ogen+on+onto+opath+ors+part+pat+path+ptr+qself+range+refc+refd+refer+refk+ret+seq+shut+sig+size+sub+trt+tup+ty+vars.Proof.Base.{bound-at, onto-below}
+
+abbrev pub calls : ℕ → bound-lts.Claims
+calls t = (word-reads.Asked, word-reads.Learnt, ident-reads.Asked, ident-reads.Learnt, invalid-reads.Asked, invalid-reads.Learnt, moved-reads.Asked, moved-reads.Learnt, bind-name-reads.Asked, bind-name-reads.Learnt, onto-below t, onto.Post)
+
+module _ (t : ℕ) where
+  pub returns : bound-lts.Need-returns (calls t) (bound-at t) bound.Post
+  returns c = search name-laws depth 8
+
+  pub word-requires : bound-lts.Need-word-requires (calls t) (bound-at t) bound.Post
+  word-requires c κs = search needs
+
+  pub same-length : bound-lts.Need-same-length (calls t) (bound-at t) bound.Post
+  same-length c = search needs
+
+  pub returns-2 : bound-lts.Need-returns-2 (calls t) (bound-at t) bound.Post
+  returns-2 c = search name-laws depth 8
+
+  pub ident-requires : bound-lts.Need-ident-requires (calls t) (bound-at t) bound.Post
+  ident-requires c κs = search needs
+
+  pub enum-known-a : bound-lts.Need-enum-known-a (calls t) (bound-at t) bound.Post
+  enum-known-a c = search needs
+
+  pub enum-told : bound-lts.Need-enum-told (calls t) (bound-at t) bound.Post
+  enum-told c = search needs
+
+  pub invalid-requires : bound-lts.Need-invalid-requires (calls t) (bound-at t) bound.Post
+  invalid-requires c κs = search needs
+
+  pub same-length-2 : bound-lts.Need-same-length-2 (calls t) (bound-at t) bound.Post
+  same-length-2 c = search needs
+
+  pub returns-3 : bound-lts.Need-returns-3 (calls t) (bound-at t) bound.Post
+  returns-3 c = search name-laws depth 8
+
+  pub moved-requires : bound-lts.Need-moved-requires (calls t) (bound-at t) bound.Post
+  moved-requires c κs = search needs
+
+  pub bind-name-requires : bound-lts.Need-bind-name-requires (calls t) (bound-at t) bound.Post
+  bind-name-requires c κs = search ident-within
+
+  pub onto-requires : bound-lts.Need-onto-requires (calls t) (bound-at t) bound.Post
+  onto-requires c κs = search needs
+
+  pub same-length-3 : bound-lts.Need-same-length-3 (calls t) (bound-at t) bound.Post
+  same-length-3 c = search needs
+
+  pub returns-4 : bound-lts.Need-returns-4 (calls t) (bound-at t) bound.Post
+  returns-4 c = name-next _ _ _ _ _ _ _ _ (c .before .before .before .before .before .before .before .before .before .before .before .before .before .before .if2 .left) (c .before .before .before .before .before .before .before .before .before .before .before .before .before .ident .ensures) _ _ _ _ _ _ _ _ _ (c .before .before .before .before .before .before .before .before .before .before .before .before .before .before .before .before .if1 .left) (c .before .before .before .before .before .before .before .before .before .before .before .a .given .1) (c .before .before .before .before .before .before .before .before .moved .ensures) (c .before .before .before .before .before .before .before .bind-name .ensures) (c .before .before .before .onto .ensures) refl

@@ -1,0 +1,100 @@
+-- `printer::cycle::separator` meets its contract. Assumes nothing.
+use Rattle.printer.specs.Model as g
+use Rattle.printer.proofs.CycleLaws.{kind-laws}
+use Rattle.printer.proofs.cycle.separator.Statement.{statement}
+use Rattle.printer.proofs.cycle.separator.Tie as tie
+
+enum-told : tie.Need-enum-told
+enum-told c = search kind-laws
+
+enum-told-2 : tie.Need-enum-told-2
+enum-told-2 c = search kind-laws
+
+enum-told-3 : tie.Need-enum-told-3
+enum-told-3 c = search kind-laws
+
+enum-told-4 : tie.Need-enum-told-4
+enum-told-4 c = search kind-laws
+
+enum-told-5 : tie.Need-enum-told-5
+enum-told-5 c = search kind-laws
+
+enum-told-6 : tie.Need-enum-told-6
+enum-told-6 c = search kind-laws
+
+enum-told-7 : tie.Need-enum-told-7
+enum-told-7 c = search kind-laws
+
+enum-told-8 : tie.Need-enum-told-8
+enum-told-8 c = search kind-laws
+
+enum-told-9 : tie.Need-enum-told-9
+enum-told-9 c = search kind-laws
+
+enum-told-10 : tie.Need-enum-told-10
+enum-told-10 c = search kind-laws
+
+returns : tie.Need-returns
+unfolding g.sepOf
+returns c = search kind-laws
+
+returns-2 : tie.Need-returns-2
+unfolding g.sepOf
+returns-2 c = search kind-laws
+
+returns-3 : tie.Need-returns-3
+unfolding g.sepOf
+returns-3 c = search kind-laws
+
+returns-4 : tie.Need-returns-4
+unfolding g.sepOf
+returns-4 c = search kind-laws
+
+returns-5 : tie.Need-returns-5
+unfolding g.sepOf
+returns-5 c = search kind-laws
+
+returns-6 : tie.Need-returns-6
+unfolding g.sepOf
+returns-6 c = search kind-laws
+
+returns-7 : tie.Need-returns-7
+unfolding g.sepOf
+returns-7 c = search kind-laws
+
+returns-8 : tie.Need-returns-8
+unfolding g.sepOf
+returns-8 c = search kind-laws
+
+returns-9 : tie.Need-returns-9
+unfolding g.sepOf
+returns-9 c = search kind-laws
+
+returns-10 : tie.Need-returns-10
+unfolding g.sepOf
+returns-10 c = search kind-laws
+
+pub separator-spec : {M : Type 1} → statement M
+separator-spec =
+    tie.close
+    (tie.spec
+    enum-told
+    enum-told-2
+    enum-told-3
+    enum-told-4
+    enum-told-5
+    enum-told-6
+    enum-told-7
+    enum-told-8
+    enum-told-9
+    enum-told-10
+    returns
+    returns-2
+    returns-3
+    returns-4
+    returns-5
+    returns-6
+    returns-7
+    returns-8
+    returns-9
+    returns-10)
