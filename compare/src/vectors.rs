@@ -1,6 +1,7 @@
 //! `vectors FOLDER` holds the Rust to the vectors of that folder and counts
 //! where they agree; it fails where they differ and should not. `vectors
-//! --questions FOLDER` writes the vectors as lines for `oracle` instead.
+//! --questions FOLDER` writes the vectors as lines for `oracle` instead, `vectors
+//! --all FOLDER` every one of them, with all real symbols and the worst cases.
 
 use rig::judge::{self, Code, LARGEST_ROOM, LONGEST_SYMBOL};
 use rig::lines::{from_hex, to_hex};
@@ -41,10 +42,11 @@ const CRATE_ROOM: usize = 1_000_000;
 fn main() -> ExitCode {
     let arguments: Vec<String> = std::env::args().skip(1).collect();
     let result = match &arguments[..] {
-        [flag, folder] if flag == "--questions" => questions(Path::new(folder)).map(|()| true),
+        [flag, folder] if flag == "--questions" => questions(Path::new(folder), false).map(|()| true),
+        [flag, folder] if flag == "--all" => questions(Path::new(folder), true).map(|()| true),
         [folder] => check(Path::new(folder)),
         _ => {
-            eprintln!("usage: vectors [--questions] FOLDER");
+            eprintln!("usage: vectors [--questions | --all] FOLDER");
             return ExitCode::FAILURE;
         }
     };
@@ -222,11 +224,17 @@ fn worst(folder: &Path) -> io::Result<()> {
 }
 
 /// Writes the vectors' symbols as questions, each symbol once.
-fn questions(folder: &Path) -> io::Result<()> {
+fn questions(folder: &Path, all: bool) -> io::Result<()> {
     let mut symbols = Vec::new();
     for (file, column, step) in QUESTIONS {
         let rows = rows(folder, file)?;
+        let step = if all { 1 } else { step };
         symbols.extend(rows.into_iter().map(|mut row| row.swap_remove(column)).step_by(step));
+    }
+    if all {
+        for row in rows(folder, "worst.hex")? {
+            symbols.push(from_hex(&row[0]).ok_or(io::Error::other("worst.hex: not hex"))?);
+        }
     }
 
     let mut seen = BTreeSet::new();

@@ -112,3 +112,15 @@ pub fn from_hex(text: &[u8], bytes: &mut [u8]) -> Bytes {
     }
     Bytes::Count(n)
 }
+
+// Whether every byte is ASCII.
+pub fn ascii(s: &[u8]) -> bool {
+    let mut i = 0;
+    while i < s.len() {
+        if s[i] >= 128 {
+            return false;
+        }
+        i += 1;
+    }
+    true
+}

@@ -43,8 +43,9 @@ fn question(line: &[u8], text: &mut [u8], out: &mut [u8], used: usize) -> usize 
     answers(&text[from..n], at as usize, out, used)
 }
 
+// The original takes ASCII alone.
 fn answers(s: &[u8], at: usize, out: &mut [u8], used: usize) -> usize {
-    if !ascii(s) {
+    if !lines::input::ascii(s) {
         return put(out, used, b"? hex");
     }
     let bytes = single(s, at, out, used);
@@ -53,18 +54,6 @@ fn answers(s: &[u8], at: usize, out: &mut [u8], used: usize) -> usize {
     let name = field::ident(s, at, out, more);
     let hex = field::hex_value(s, at, out, name);
     field::hex_text(s, at, out, hex)
-}
-
-// Whether every byte is ASCII: the original takes no other.
-fn ascii(s: &[u8]) -> bool {
-    let mut i = 0;
-    while i < s.len() {
-        if s[i] >= 128 {
-            return false;
-        }
-        i += 1;
-    }
-    true
 }
 
 fn single(s: &[u8], at: usize, out: &mut [u8], used: usize) -> usize {

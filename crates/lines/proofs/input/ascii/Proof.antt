@@ -1,9 +1,9 @@
--- `readers::answer::ascii` meets its contract. Assumes nothing.
+-- `lines::input::ascii` meets its contract. Assumes nothing.
 use lib.ListN.{length}
 use Prim.Native.Nat.{_-_, _≤_}
 use borrow.Author.Needs.{needs}
-use Rattle.readers.proofs.answer.ascii.Statement.{statement}
-use Rattle.readers.proofs.answer.ascii.Tie as tie
+use Rattle.lines.proofs.input.ascii.Statement.{statement}
+use Rattle.lines.proofs.input.ascii.Tie as tie
 
 abbrev Inv-loop : tie.InvT-loop
 Inv-loop s i₀ i = Unit {0}
