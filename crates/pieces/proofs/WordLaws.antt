@@ -13,7 +13,7 @@ pub word-is : (starts lengths : List ℕ) (k : ℕ) (run : List ℕ) {d e : List
     → Wrote (take (getD starts k 0 + getD lengths k 0 - getD starts k 0) (drop (getD starts k 0) run)) d e r → Wrote (wordAt k) d e r
 word-is starts lengths k run h t w = entry-is starts lengths k h run wordAt t w
 
-pub no-word : (k : ℕ) (d : List ℕ) → 53 ≤ k → Wrote (wordAt k) d d (Done 0)
+pub no-word : (k : ℕ) (d : List ℕ) → 52 ≤ k → Wrote (wordAt k) d d (Done 0)
 unfolding wordAt words
 no-word k d h = rw (List·getD-eq-default words [] {n = k} h) (wrote-none d)
 

@@ -7,7 +7,7 @@ use Rattle.parser.specs.Digits.{if-then}
 use Rattle.punycode.specs.Decode.{Spelt, spelt, long, broken}
 use Rattle.punycode.specs.Answer.{decoded}
 use Rattle.nibbles.specs.Utf8.{encoded}
-use Rattle.pieces.specs.Words.{wordAt, punycode}
+use Rattle.pieces.specs.Words.{ascii}
 
 -- the ASCII part and `-`, where there is one
 unfoldable pub basicPart : List ℕ → List ℕ
@@ -19,7 +19,7 @@ unfoldable pub parts : List ℕ → List ℕ → List ℕ
 parts basic code = basicPart basic ++ (code ++ (125 ∷ []))
 
 unfoldable pub rawName : List ℕ → List ℕ → List ℕ
-rawName basic code = wordAt punycode ++ parts basic code
+rawName basic code = ascii "punycode{" ++ parts basic code
 
 unfoldable pub shownName : Spelt → List ℕ → List ℕ → List ℕ
 shownName (spelt cs) basic code = encoded cs

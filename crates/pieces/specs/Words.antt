@@ -20,7 +20,7 @@ words =
     ascii "; " ∷ ascii "]" ∷ ascii "(" ∷ ascii "," ∷ ascii ")" ∷ ascii "unsafe " ∷ ascii "extern \"" ∷ ascii "\" " ∷
     ascii "fn(" ∷ ascii " -> " ∷ ascii "dyn " ∷ ascii " is " ∷ ascii "#[splat] " ∷ ascii " = " ∷ ascii "..=" ∷
     ascii " | " ∷ ascii "!null" ∷ ascii "_" ∷ ascii "-" ∷ ascii "false" ∷ ascii "true" ∷ ascii "{" ∷ ascii "*" ∷
-    ascii " { " ∷ ascii ": " ∷ ascii " }" ∷ ascii "0x" ∷ ascii "punycode{" ∷ ascii "C" ∷ ascii "for<" ∷ ascii "> " ∷
+    ascii " { " ∷ ascii ": " ∷ ascii " }" ∷ ascii "0x" ∷ ascii "C" ∷ ascii "for<" ∷ ascii "> " ∷
     ascii "'" ∷ []
 
 -- the word of a number; none past the last
@@ -173,17 +173,14 @@ fields-end = 46
 abbrev pub hex : ℕ
 hex = 47
 
-abbrev pub punycode : ℕ
-punycode = 48
-
 abbrev pub c : ℕ
-c = 49
+c = 48
 
 abbrev pub for : ℕ
-for = 50
+for = 49
 
 abbrev pub for-end : ℕ
-for-end = 51
+for-end = 50
 
 abbrev pub tick : ℕ
-tick = 52
+tick = 51

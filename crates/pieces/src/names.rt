@@ -3,8 +3,6 @@ use crate::put::Put;
 use crate::put::put_byte;
 use crate::put::put_run;
 use crate::put::put_run_end;
-use crate::words;
-use crate::words::put_word;
 use punycode::Decoded;
 ghost use Rattle.pieces.specs.Laid.{Wrote};
 ghost use Prim.Native.Nat.{_≤_};
@@ -98,7 +96,7 @@ fn put_raw(out: &mut [u8], name: &[u8], ascii: usize, code: usize) -> Put
     requires { ⌜ (ascii ≤ length (now name)) × (code ≤ length (now name)) ⌝ }
     ensures { λ r. ⌜ Wrote (rawName (take ascii (now (name .entry))) (drop code (now (name .entry)))) (now (out .entry)) (now (out .exit)) r ⌝ }
 {
-    let Put::Done(a) = put_word(out, words::PUNYCODE) else {
+    let Put::Done(a) = put_run(out, b"punycode{") else {
         return Put::NoRoom;
     };
     let Put::Done(k) = put_parts(&mut out[a..], name, ascii, code) else {

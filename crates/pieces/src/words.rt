@@ -100,17 +100,15 @@ pub const FIELDS_END: usize = 46;
 
 pub const HEX: usize = 47;
 
-pub const PUNYCODE: usize = 48;
+pub const C: usize = 48;
 
-pub const C: usize = 49;
+pub const FOR: usize = 49;
 
-pub const FOR: usize = 50;
+pub const FOR_END: usize = 50;
 
-pub const FOR_END: usize = 51;
+pub const TICK: usize = 51;
 
-pub const TICK: usize = 52;
-
-const STARTS: [u8; 53] = [
+const STARTS: [u8; 52] = [
     0,
     16,
     41,
@@ -160,13 +158,12 @@ const STARTS: [u8; 53] = [
     172,
     174,
     176,
-    185,
-    186,
-    190,
-    192,
+    177,
+    181,
+    183,
 ];
 
-const LENGTHS: [u8; 53] = [
+const LENGTHS: [u8; 52] = [
     16,
     25,
     1,
@@ -215,21 +212,20 @@ const LENGTHS: [u8; 53] = [
     2,
     2,
     2,
-    9,
     1,
     4,
     2,
     1,
 ];
 
-const RUN: [u8; 193] =
-    *b"{invalid syntax}{recursion limit reached}?::::{closureshim:#}< as >::<,  + &mut *const *mut [; ](,)unsafe extern \"\" fn( -> dyn  is #[splat]  = ..= | !null_-falsetrue{* { :  }0xpunycode{Cfor<> '";
+const RUN: [u8; 184] =
+    *b"{invalid syntax}{recursion limit reached}?::::{closureshim:#}< as >::<,  + &mut *const *mut [; ](,)unsafe extern \"\" fn( -> dyn  is #[splat]  = ..= | !null_-falsetrue{* { :  }0xCfor<> '";
 
-// The word of a number; there is none from 53 on.
+// The word of a number; there is none from 52 on.
 pub fn put_word(out: &mut [u8], k: usize) -> Put
     ensures { λ r. ⌜ Wrote (wordAt k) (now (out .entry)) (now (out .exit)) r ⌝ }
 {
-    if k >= 53 {
+    if k >= 52 {
         return Put::Done(0);
     }
     let a = STARTS[k] as usize;

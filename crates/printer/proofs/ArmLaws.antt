@@ -1,33 +1,24 @@
 -- What each step of a printer's code comes to, backwards from the goal `w ≡ lay m a (world o st)`, for `search`. Assumes nothing.
-use Prim.Native.Nat.{ℕ, zero, suc, _+_, _-_, _≤_, _<_}
+use Prim.Native.Nat.{ℕ, zero, suc, _+_, _-_}
 use mathlib.Core.Path.{_≡_, refl, ap, sym, _∙_}
 use mathlib.Core.Bool.{Bool, true, false, not}
 use mathlib.Core.List.{List, [], _∷_, _++_}
 use native.Mathlib.Omega.{arith}
 use borrow.Author.Tests.{eq-eqb, ne-eqb}
 use lib.Dec.{eqb}
-use Rattle.parser.specs.Digits.{if-then}
-use Rattle.parser.specs.Bytes.{past, byteAt}
-use Rattle.parser.specs.declared.bytes.Byte.{Byte}
-use Rattle.parser.specs.declared.bytes.Byte.the-variants.{Read, Invalid as NoByte}
-use Rattle.pieces.specs.Piece.{Piece, word}
-use Rattle.printer.specs.declared.state.State.{State}
-use Rattle.printer.specs.Says.{U, Res, ok, bad, Says, Stop, next, _>>=_, _then_, give, emit, onError, breaks, broken, reader, Got, got, lost, taken, need, choose, mute, caught, refused, asking, still, asks, Tags, pick, invalid, tooDeep}
-use Rattle.printer.specs.Lay.{World, world, Out, out, lays, lay, doing, good, movedTo, backTo, failedAt, follows}
+use Rattle.parser.specs.Bytes.{past}
+use Rattle.pieces.specs.Piece.{Piece}
+use Rattle.printer.specs.Lay.{State}
+use Rattle.printer.specs.Says.{U, ok, bad, Says, next, _>>=_, _then_, emit, breaks, broken, Got, got, lost, taken, need, mute, asking, still, asks, invalid}
+use Rattle.printer.specs.Lay.{World, world, Out, out, lays, lay, doing, movedTo, failedAt}
 use Rattle.printer.specs.Model as g
 use Rattle.printer.specs.Model.{sayIf}
-use Rattle.printer.proofs.LayLaws.{lay-off, lay-full, lays-full, lay-same, lays-same, lay-then, lays-bind, lay-moved, lays-moved, lay-mute, lay-nil, lays-still, lays-failed, lays-stopped, lay-caught, lays-caught, doing-run, doing-stop}
+use Rattle.printer.proofs.StateLaws.{Halted}
+use Rattle.printer.proofs.LayLaws.{lay-full, lays-full, lay-same, lays-same, lay-then, lays-bind, lay-moved, lay-mute, lays-still, lays-failed, lays-stopped, doing-run, doing-stop}
 
 -- ---- any printer
 pub arm-full : (m : ℕ) (a : Says U) (o : List ℕ) (st : State) → st .full ≡ true → world o st ≡ lay m a (world o st)
 arm-full m a o st h = sym (lay-full m a (world o st) h)
-
--- a face: with room and no error the state is the good one of its fields
-good-is : (st : State) → st .full ≡ false → st .error ≡ 0 → good (st .place) (st .damaged) (st .written) ≡ st
-good-is st f e = rw (← f, ← e) refl
-
-pub arm-good : (m : ℕ) (a : Says U) (o : List ℕ) (st : State) (w : World) → st .full ≡ false → st .error ≡ 0 → w ≡ lay m a (world o (good (st .place) (st .damaged) (st .written))) → w ≡ lay m a (world o st)
-arm-good m a o st w f e p = p ∙ ap (λ (x : State). lay m a (world o x)) (good-is st f e)
 
 -- the same printer at a state that is the same
 pub arm-there : (m : ℕ) (a : Says U) (o : List ℕ) (st mv : State) (w : World) → mv ≡ st → w ≡ lay m a (world o mv) → w ≡ lay m a (world o st)
@@ -48,10 +39,6 @@ arm-list m a b v x w p q = arm-bind 0 m a (λ _. b) v x w p q
 pub arm-mute-then : (m : ℕ) (a b : Says U) (v x w : World) → x ≡ lay 0 a v → w ≡ lay m b x → w ≡ lay m (mute a then b) v
 arm-mute-then m a b v x w p q = arm-then m (mute a) b v x w (p ∙ sym (lay-mute m a v)) q
 
--- nothing
-pub arm-nil : (m : ℕ) (w : World) → w ≡ lay m (emit []) w
-arm-nil m w = sym (lay-nil m w)
-
 -- pieces, some after others
 pub arm-pieces : (m : ℕ) (ps qs : List Piece) (v x w : World) → x ≡ lay m (emit ps) v → w ≡ lay m (emit qs) x → w ≡ lay m (emit (ps ++ qs)) v
 arm-pieces m ps qs v x w p q = arm-then m (emit ps) (emit qs) v x w p q ∙ lay-same m (emit ps then emit qs) (emit (ps ++ qs)) v (go (v .st .place) (v .st .error))
@@ -63,20 +50,20 @@ arm-pieces m ps qs v x w p q = arm-then m (emit ps) (emit qs) v x w p q ∙ lay-
 pub arm-piece : (m : ℕ) (p : Piece) (qs : List Piece) (v x w : World) → x ≡ lay m (emit (p ∷ [])) v → w ≡ lay m (emit qs) x → w ≡ lay m (emit (p ∷ qs)) v
 arm-piece m p qs v x w h k = arm-pieces m (p ∷ []) qs v x w h k
 
--- a word that is there by a test
-pub if-yes : (m : ℕ) (t : Bool) (k : ℕ) (v w : World) → t ≡ true → w ≡ lay m (emit (word k ∷ [])) v → w ≡ lay m (sayIf t k) v
-if-yes m t k v w h p = rw h p
+-- ---- at a state that has stopped only what is said then counts: `?`, or something else
+halted : (m : ℕ) (a b : Says U) (o : List ℕ) (st : State) → Halted st → b .stopped ≡ a .stopped → lay m b (world o st) ≡ lay m a (world o st)
+halted m a b o st h k = go (st .full) refl
+  where
+    go : (x : Bool) → st .full ≡ x → lay m b (world o st) ≡ lay m a (world o st)
+    go true f = lay-full m b (world o st) f ∙ sym (lay-full m a (world o st) f)
+    go false f = lay-same m b a (world o st) (doing-stop b a (st .place) (st .error) (h .no f) k)
 
-pub if-no : (m : ℕ) (t : Bool) (k : ℕ) (v : World) → t ≡ false → v ≡ lay m (sayIf t k) v
-if-no m t k v h = rw h (sym (lay-nil m v))
-
--- ---- with an error set: `?`, or what the thing says then
-pub arm-stop : (m : ℕ) (a : Says U) (o : List ℕ) (st : State) (w : World) → a .stopped ≡ asking tt → (st .error ≡ 0 → ⊥) → w ≡ lay m (emit asks) (world o st) → w ≡ lay m a (world o st)
+pub arm-stop : (m : ℕ) (a : Says U) (o : List ℕ) (st : State) (w : World) → a .stopped ≡ asking tt → Halted st → w ≡ lay m (emit asks) (world o st) → w ≡ lay m a (world o st)
 unfolding emit
-arm-stop m a o st w k e p = p ∙ lay-same m (emit asks) a (world o st) (doing-stop (emit asks) a (st .place) (st .error) e (sym k))
+arm-stop m a o st w k e p = p ∙ halted m a (emit asks) o st e (sym k)
 
-pub arm-error : (m : ℕ) (a b : Says U) (o : List ℕ) (st : State) (w : World) → (st .error ≡ 0 → ⊥) → w ≡ lay m b (world o st) → b .stopped ≡ a .stopped → w ≡ lay m a (world o st)
-arm-error m a b o st w e p k = p ∙ lay-same m b a (world o st) (doing-stop b a (st .place) (st .error) e k)
+pub arm-error : (m : ℕ) (a b : Says U) (o : List ℕ) (st : State) (w : World) → Halted st → w ≡ lay m b (world o st) → b .stopped ≡ a .stopped → w ≡ lay m a (world o st)
+arm-error m a b o st w e p k = p ∙ halted m a b o st e k
 
 -- with none: what runs the same from here; and from another place
 pub arm-run : (m : ℕ) (a b : Says U) (o : List ℕ) (st : State) (w : World) → st .error ≡ 0 → w ≡ lay m b (world o st) → b .run (st .place) ≡ a .run (st .place) → w ≡ lay m a (world o st)
@@ -86,7 +73,7 @@ pub arm-moved : (m : ℕ) (a b : Says U) (q : ℕ) (o : List ℕ) (st mv : State
 arm-moved m a b q o st mv w f e l p k = p ∙ (ap (λ (x : State). lay m b (world o x)) l ∙ sym (lay-moved m a b q o st f e k))
 
 -- ---- a reading that is there, and one that fails
-pub need-stop : {A : Type 0} (m : ℕ) (p : ℕ → Got A) (f : A → Says U) (o : List ℕ) (st : State) (w : World) → (st .error ≡ 0 → ⊥) → w ≡ lay m (emit asks) (world o st) → w ≡ lay m (need p tt f) (world o st)
+pub need-stop : {A : Type 0} (m : ℕ) (p : ℕ → Got A) (f : A → Says U) (o : List ℕ) (st : State) (w : World) → Halted st → w ≡ lay m (emit asks) (world o st) → w ≡ lay m (need p tt f) (world o st)
 unfolding need
 need-stop m p f o st w e k = arm-stop m (need p tt f) o st w refl e k
 
@@ -100,8 +87,8 @@ arm-lost m p f o st mv w e h l k = arm-run m (need p tt f) broken o st w e (arm-
 
 -- ---- eat, and go by whether it was there: y is what `eat` answered
 module _ (m : ℕ) (s : List ℕ) (k : ℕ) (f : Bool → Says U) (o : List ℕ) (st : State) (w : World) where
-  pub eat-stop : st .full ≡ false → (st .error ≡ 0 → ⊥) → w ≡ lay m (f false) (world o st) → w ≡ lay m (g.eat s k >>= f) (world o st)
-  eat-stop u e p = arm-bind false m (g.eat s k) f (world o st) (out false (world o st)) w (sym (lays-stopped false false m (g.eat s k) o st u e (unfold g.eat in refl))) p
+  pub eat-stop : Halted st → w ≡ lay m (f false) (world o st) → w ≡ lay m (g.eat s k >>= f) (world o st)
+  eat-stop h p = arm-error m (g.eat s k >>= f) (f false) o st w h p (unfold g.eat _>>=_ in refl)
 
   module _ (y : ℕ) (free : st .full ≡ false) (none : st .error ≡ 0) (eaten : y ≡ past k s (st .place)) where
     pub eat-no : (mv : State) → y ≡ st .place → mv ≡ st → w ≡ lay m (f false) (world o mv) → w ≡ lay m (g.eat s k >>= f) (world o st)
@@ -113,40 +100,6 @@ module _ (m : ℕ) (s : List ℕ) (k : ℕ) (f : Bool → Says U) (o : List ℕ)
     eat-yes mv n l p =
         arm-bind false m (g.eat s k) f (world o st) (out true (world o mv)) w
         (ap (λ (x : State). out true (world o x)) l ∙ sym (lays-still false true m (g.eat s k) o st y free none (unfold g.eat in (rw (ne-eqb (past k s (st .place)) (st .place) (λ q. n (eaten ∙ q)), ← eaten))))) p
-
--- ---- by the tag, for a printer with any value: x is what `next` answered
-module _ {A : Type 0} (s : List ℕ) (z : A) (ts : Tags A) (i : ℕ) (x : Byte) (answered : x ≡ byteAt s i) where
-  by-run : (d : ℕ → ℕ → ℕ → Res A) (y : Byte) → x ≡ y → g.byTag s z ts d .run i ≡ g.onByte y (λ c j. pick c ts (λ k. d c k j) i j) (refused z invalid i)
-  unfolding g.byTag reader
-  by-run d y h = ap (λ (b : Byte). g.onByte b (λ c j. pick c ts (λ k. d c k j) i j) (refused z invalid i)) (sym answered ∙ h)
-
-  pub or-run : (d : ℕ → Res A) (y : Byte) → x ≡ y → g.orTag s z ts d .run i ≡ g.onByte y (λ c j. pick c ts d i j) (d i)
-  unfolding g.orTag reader
-  or-run d y h = ap (λ (b : Byte). g.onByte b (λ c j. pick c ts d i j) (d i)) (sym answered ∙ h)
-
-module _ (m : ℕ) (s : List ℕ) (ts : Tags U) (o : List ℕ) (st mv : State) (w : World) (x : Byte) where
-  module _ (d : ℕ → ℕ → ℕ → Res U) where
-    -- the tag k of the table: a is what runs behind it
-    pub tag-next : (a : Says U) (c q k : ℕ) → st .full ≡ false → st .error ≡ 0 → x ≡ byteAt s (st .place) → x ≡ Read c q → c ≡ k → mv ≡ movedTo q st → w ≡ lay m a (world o mv) → pick k ts (λ i. d k i q) (st .place) q ≡ a .run q → w ≡ lay m (g.byTag s tt ts d) (world o st)
-    tag-next a c q k f e h l n v p t = arm-moved m (g.byTag s tt ts d) a q o st mv w f e v p (by-run s tt ts (st .place) x h d (Read k q) (l ∙ ap (λ (b : ℕ). Read b q) n) ∙ t)
-
-    -- none of them: a runs from the tag's own place, or from behind it
-    pub tag-stay : (a : Says U) (c q : ℕ) → st .error ≡ 0 → x ≡ byteAt s (st .place) → x ≡ Read c q → mv ≡ st → w ≡ lay m a (world o mv) → pick c ts (λ i. d c i q) (st .place) q ≡ a .run (st .place) → w ≡ lay m (g.byTag s tt ts d) (world o st)
-    tag-stay a c q e h l v p t = arm-run m (g.byTag s tt ts d) a o st w e (arm-there m a o st mv w v p) (sym (by-run s tt ts (st .place) x h d (Read c q) l ∙ t))
-
-    pub tag-end : st .error ≡ 0 → x ≡ byteAt s (st .place) → x ≡ NoByte → mv ≡ st → w ≡ lay m broken (world o mv) → w ≡ lay m (g.byTag s tt ts d) (world o st)
-    unfolding broken breaks
-    tag-end e h l v p = arm-run m (g.byTag s tt ts d) broken o st w e (arm-there m broken o st mv w v p) (sym (by-run s tt ts (st .place) x h d NoByte l))
-
-  module _ (d : ℕ → Res U) where
-    pub or-next : (a : Says U) (c q k : ℕ) → st .full ≡ false → st .error ≡ 0 → x ≡ byteAt s (st .place) → x ≡ Read c q → c ≡ k → mv ≡ movedTo q st → w ≡ lay m a (world o mv) → pick k ts d (st .place) q ≡ a .run q → w ≡ lay m (g.orTag s tt ts d) (world o st)
-    or-next a c q k f e h l n v p t = arm-moved m (g.orTag s tt ts d) a q o st mv w f e v p (or-run s tt ts (st .place) x h d (Read k q) (l ∙ ap (λ (b : ℕ). Read b q) n) ∙ t)
-
-    pub or-stay : (a : Says U) (c q : ℕ) → st .error ≡ 0 → x ≡ byteAt s (st .place) → x ≡ Read c q → w ≡ lay m a (world o st) → pick c ts d (st .place) q ≡ a .run (st .place) → w ≡ lay m (g.orTag s tt ts d) (world o st)
-    or-stay a c q e h l p t = arm-run m (g.orTag s tt ts d) a o st w e p (sym (or-run s tt ts (st .place) x h d (Read c q) l ∙ t))
-
-    pub or-end : (a : Says U) → st .error ≡ 0 → x ≡ byteAt s (st .place) → x ≡ NoByte → w ≡ lay m a (world o st) → d (st .place) ≡ a .run (st .place) → w ≡ lay m (g.orTag s tt ts d) (world o st)
-    or-end a e h l p t = arm-run m (g.orTag s tt ts d) a o st w e p (sym (or-run s tt ts (st .place) x h d NoByte l ∙ t))
 
 -- ---- a thing of no value, then one with a value
 pub lays-then : {B : Type 0} (z : B) (m : ℕ) (a : Says U) (b : Says B) (w : World) → lays z m (a then b) w ≡ lays z m b (lay m a w)

@@ -1,21 +1,19 @@
 -- The laws of `lay`: a printer done to a buffer. Assumes nothing.
 use Prim.Native.Nat.{ℕ, zero, suc, _+_, _-_, _≤_, _<_}
-use mathlib.Core.Path.{_≡_, refl, ap, sym, _∙_, subst}
-use mathlib.Core.Bool.{Bool, true, false, cond, _||_, or-assoc, or-false, or-true}
-use mathlib.Core.List.{List, [], _∷_, _++_, append-assoc, append-nil}
+use mathlib.Core.Path.{_≡_, refl, ap, sym, _∙_}
+use mathlib.Core.Bool.{Bool, true, false, _||_, or-assoc, or-false, or-true}
+use mathlib.Core.List.{List, [], _∷_, _++_, append-assoc}
 use native.Mathlib.Nat.{add-assoc, add-zero}
 use native.Mathlib.Omega.{arith}
-use lib.ListN.{length, length-append, take, drop, getD, set, take-append-drop}
-use lib.Seq.{take-all, take-suc, length-take-le}
-use native.Mathlib.Numerals.{add-one}
-use lib.Dec.{leb, leb·zero, eqb}
+use lib.ListN.{length, length-append}
+use lib.Dec.{leb, leb·zero}
 use borrow.Author.Tests.{le-leb, lt-leb, leb-true, leb-false}
-use Rattle.printer.specs.declared.state.State.{State}
+use Rattle.printer.specs.Lay.{State}
 use Rattle.printer.specs.Over.{over}
-use Rattle.printer.specs.Says.{U, Res, ok, bad, Says, Stop, stop, onto, next, _>>=_, _then_, give, emit, onError, breaks, broken, reader, Got, got, lost, taken, need, choose, hush, mute, caught, refused, asking, asks, marks}
-use Rattle.pieces.specs.Piece.{Piece, word, render, spelled, spell, isShort}
-use Rattle.printer.specs.Lay.{World, world, Out, out, valueOf, placeOf, errorOf, damageOf, piecesOf, doing, fullState, fitted, text, laid, laysOn, lays, lay, movedTo, backTo, failedAt, advancedBy}
-use Rattle.printer.proofs.OverLaws.{over-nil, length-over, over-over, over-cut, over-one}
+use Rattle.printer.specs.Says.{U, Res, ok, bad, Says, Stop, onto, next, _>>=_, _then_, emit, breaks, hush, mute, caught, marks}
+use Rattle.pieces.specs.Piece.{Piece, render, spelled, spell}
+use Rattle.printer.specs.Lay.{World, world, Out, out, valueOf, placeOf, errorOf, damageOf, piecesOf, doing, fullState, fitted, text, laid, laysOn, lays, lay, movedTo, backTo, failedAt}
+use Rattle.printer.proofs.OverLaws.{over-nil, length-over, over-over, over-cut}
 
 -- ---- pieces
 spelled-append : (h : Bool) (o p : List Piece) → spelled h (o ++ p) ≡ spelled h o ++ spelled h p

@@ -6,6 +6,8 @@ pub mod LayLaws
 pub mod PieceLaws
 pub mod ArmLaws
 pub mod TextLaws
+pub mod TagLaws
+pub mod ToldLaws
 pub mod NeedLaws
 pub mod WithinLaws
 pub mod LeafLaws

@@ -1,12 +1,9 @@
 -- A reading and what follows it, for each of the readers: the answer is shown as the code's places have it. Assumes nothing.
-use Prim.Native.Nat.{ℕ, zero, suc, _+_, _-_, _≤_, _<_}
-use mathlib.Core.Path.{_≡_, refl, ap, sym, _∙_}
-use mathlib.Core.Bool.{Bool, true, false}
-use mathlib.Core.List.{List, [], _∷_}
-use native.Mathlib.Omega.{arith}
-use Rattle.parser.specs.Bytes.{byteAt}
-use Rattle.parser.specs.Number.{integer62, optional62, backAt}
-use Rattle.parser.specs.Names.{identAt}
+use Prim.Native.Nat.{ℕ}
+use mathlib.Core.Path.{_≡_, ap, sym, _∙_}
+use mathlib.Core.Bool.{Bool, false}
+use mathlib.Core.List.{List}
+use Rattle.parser.specs.Number.{backAt}
 use Rattle.parser.specs.declared.number.Num.{Num}
 use Rattle.parser.specs.declared.number.Num.the-variants.{Value, Invalid as NoNum}
 use Rattle.parser.specs.declared.number.Back.{Back}
@@ -14,21 +11,19 @@ use Rattle.parser.specs.declared.number.Back.the-variants.{Target, Invalid as N
 use Rattle.nibbles.specs.Uint.{hexValue}
 use Rattle.nibbles.specs.declared.uint.Hex.{Hex}
 use Rattle.nibbles.specs.declared.uint.Hex.the-variants.{Small, Big, Invalid as NoHex}
-use Rattle.printer.specs.declared.state.State.{State}
+use Rattle.printer.specs.Lay.{State}
 use Rattle.printer.specs.declared.read.Letter.{Letter}
 use Rattle.printer.specs.declared.read.Letter.the-variants.{Of as Ns, Invalid as NoLetter}
 use Rattle.printer.specs.declared.read.Named.{Named}
 use Rattle.printer.specs.declared.read.Named.the-variants.{Of as Called, Invalid as NoNamed}
-use Rattle.printer.specs.declared.read.Head.{Head}
-use Rattle.printer.specs.declared.read.Head.the-variants.{Of as Before, Invalid as NoHead}
 use Rattle.printer.specs.declared.read.Flag.{Flag}
 use Rattle.printer.specs.declared.read.Flag.the-variants.{Of as Is, Invalid as NoFlag}
 use Rattle.printer.specs.declared.read.Literal.{Literal}
 use Rattle.printer.specs.declared.read.Literal.the-variants.{Of as Spelt, Invalid as NoLiteral}
-use Rattle.printer.specs.Says.{U, Says, broken, Got, got, lost, need, invalid}
-use Rattle.printer.specs.Readings.{letterAt, namedAt, lifeAt, headAt, flagAt, scalarAt, literalAt}
+use Rattle.printer.specs.Says.{U, Says, broken, need}
+use Rattle.printer.specs.Readings.{letterAt, namedAt, flagAt, literalAt}
 use Rattle.printer.specs.Lay.{World, world, lay, movedTo}
-use Rattle.printer.specs.Model.{Places, Abi, Integer, small, large, gotNum, gotBack, gotLetter, gotFlag, gotNamed, gotHead, gotHex, gotLiteral}
+use Rattle.printer.specs.Model.{Places, Integer, small, large, gotNum, gotBack, gotLetter, gotFlag, gotNamed, gotHex, gotLiteral}
 use Rattle.printer.proofs.ArmLaws.{arm-got, arm-lost}
 
 -- o and st before the reading, mv the state that the code goes on with, w what it comes to
@@ -67,13 +62,6 @@ module _ (m : ℕ) (o : List ℕ) (st mv : State) (w : World) where
 
       pub named-fails : st .error ≡ 0 → x ≡ namedAt s (st .place) → x ≡ NoNamed → mv ≡ st → w ≡ lay m broken (world o mv) → w ≡ lay m (need (λ i. gotNamed (namedAt s i)) tt f) (world o st)
       named-fails e h k l p = arm-lost m (λ i. gotNamed (namedAt s i)) f o st mv w e (ap gotNamed (sym h ∙ k)) l p
-
-    module _ (f : Abi → Says U) (x : Head) where
-      pub head-next : (u : Bool) (k a b q : ℕ) → st .full ≡ false → st .error ≡ 0 → x ≡ headAt s (st .place) → x ≡ Before u k a b q → mv ≡ movedTo q st → w ≡ lay m (f (record { isUnsafe = u; which = k; a = a; b = b })) (world o mv) → w ≡ lay m (need (λ i. gotHead (headAt s i)) tt f) (world o st)
-      head-next u k a b q n e h y l p = arm-got m (λ i. gotHead (headAt s i)) f (record { isUnsafe = u; which = k; a = a; b = b }) q o st mv w n e (ap gotHead (sym h ∙ y)) l p
-
-      pub head-fails : st .error ≡ 0 → x ≡ headAt s (st .place) → x ≡ NoHead → mv ≡ st → w ≡ lay m broken (world o mv) → w ≡ lay m (need (λ i. gotHead (headAt s i)) tt f) (world o st)
-      head-fails e h k l p = arm-lost m (λ i. gotHead (headAt s i)) f o st mv w e (ap gotHead (sym h ∙ k)) l p
 
     module _ (f : Integer → Says U) (x : Hex) where
       pub hex-small : (v q : ℕ) → st .full ≡ false → st .error ≡ 0 → x ≡ hexValue s (st .place) → x ≡ Small v q → mv ≡ movedTo q st → w ≡ lay m (f (small v)) (world o mv) → w ≡ lay m (need (λ i. gotHex i (hexValue s i)) tt f) (world o st)

@@ -1,6 +1,6 @@
 -- The laws of `over`. Assumes nothing.
-use Prim.Native.Nat.{ℕ, zero, suc, _+_, _-_, _≤_, _<_}
-use mathlib.Core.Path.{_≡_, refl, ap, sym, _∙_}
+use Prim.Native.Nat.{ℕ, zero, suc, _+_, _-_, _≤_}
+use mathlib.Core.Path.{_≡_, refl, ap, sym}
 use mathlib.Core.List.{List, [], _∷_, _++_}
 use native.Mathlib.Nat.{suc-add, zero-add}
 use native.Mathlib.Omega.{arith}

@@ -4,23 +4,20 @@ use mathlib.Core.Path.{_≡_, refl, ap, sym, _∙_}
 use mathlib.Core.Bool.{Bool, true, false}
 use mathlib.Core.List.{List, [], _∷_, _++_, append-nil}
 use native.Mathlib.Omega.{arith}
-use borrow.Author.Needs.{needs}
-use borrow.Author.Tests.{le-leb, lt-leb, leb-true, leb-false, eq-eqb, ne-eqb}
-use lib.Dec.{leb, eqb}
+use borrow.Author.Tests.{le-leb, lt-leb, leb-true, leb-false}
+use lib.Dec.{leb}
 use lib.ListN.{length, take, drop, length-drop, drop-of-length-le}
 use lib.Seq.{take-all, take-nil, drop-nil}
 use Rattle.parser.specs.Digits.{if-then}
 use Rattle.pieces.specs.Laid.{laid, room, Wrote}
 use Rattle.pieces.specs.declared.put.Put.{Put}
 use Rattle.pieces.specs.declared.put.Put.the-variants.{Done, NoRoom}
-use Rattle.pieces.specs.Numeral.{hashText}
-use Rattle.pieces.specs.Piece.{Piece, word, hash, kind, basic, spell, spelled, render, isShort, unless}
-use Rattle.printer.specs.declared.state.State.{State}
+use Rattle.pieces.specs.Piece.{Piece, spell, spelled, render, isShort}
+use Rattle.printer.specs.Lay.{State}
 use Rattle.printer.specs.Over.{over}
-use Rattle.printer.specs.Says.{U, emit, onError, breaks, broken, marks}
-use Rattle.printer.specs.Lay.{World, world, lay, fullState, failedAt, advancedBy}
-use Rattle.printer.specs.Model.{sayIf}
-use Rattle.printer.proofs.LayLaws.{lay-full, lay-off, lay-nil, lay-emit, lay-spell, lay-same, lay-breaks, written, doing-run, doing-stop}
+use Rattle.printer.specs.Says.{emit}
+use Rattle.printer.specs.Lay.{world, lay, fitted, fullState, sumOf, settledBy}
+use Rattle.printer.proofs.LayLaws.{lay-full, lay-off, lay-emit, written}
 
 -- ---- the answer of a writer
 done : (n m : ℕ) {k : ℕ} → Done k ≡ room n m → (k ≡ n) × (n ≤ m)
@@ -86,30 +83,27 @@ module _ (o : List ℕ) (st : State) (w : ℕ) (starts : w ≡ min (st .written)
         ∙ (ap (λ (l : List ℕ). l ++ laid t (drop (st .written) o)) (ap (λ (k : ℕ). take k o) starts ∙ take-least o (st .written))
         ∙ sym (over-split o (st .written) t)))
 
-    module _ (n : ℕ) (said : p ≡ Done n) where
-      fits : (n ≡ length t) × (length t ≤ length o - st .written)
-      fits =
-          let k = done (length t) (length (rest o w)) (sym said ∙ wrote .said) in
-          (k .0, omega (arith, size))
+    fits : (n : ℕ) → p ≡ Done n → (n ≡ length t) × (length t ≤ length o - st .written)
+    fits n said =
+        let k = done (length t) (length (rest o w)) (sym said ∙ wrote .said) in
+        (k .0, omega (arith, size))
 
-      pub sum-fits : length o < 2 ^ 64 → st .written < 2 ^ 64 → st .written + n < 2 ^ 64
-      sum-fits h k = let q = fits in omega arith
+    pub sum-fits : length o < 2 ^ 64 → st .written < 2 ^ 64 → sumOf p st < 2 ^ 64
+    sum-fits h k = go p refl
+      where
+        go : (q : Put) → p ≡ q → sumOf q st < 2 ^ 64
+        go (Done n) said = let q = fits n said in omega arith
+        go NoRoom said = omega arith
 
-      pub piece-done : (m : ℕ) (ps : List Piece) (r : State) → st .full ≡ false → r ≡ advancedBy n st → render m ps ≡ t → world (back o w f) r ≡ lay m (emit ps) (world o st)
-      piece-done m ps r free h e =
-          let q = fits in
-          let a : written o st t ≡ world (over o (st .written) t) (advancedBy n st) = rw (le-leb (length t) (length o - st .written) (q .1), ← q .0, free) in
-          ap (λ (x : State). world (back o w f) x) h
-          ∙ (ap (λ (b : List ℕ). world b (advancedBy n st)) back-is
-          ∙ (sym a ∙ sym (lay-emit m ps o st free ∙ ap (written o st) e)))
-
-    pub piece-full : (m : ℕ) (ps : List Piece) (r : State) → st .full ≡ false → p ≡ NoRoom → r ≡ fullState → render m ps ≡ t → world (back o w f) r ≡ lay m (emit ps) (world o st)
-    piece-full m ps r free said h e =
-        let k = short (length t) (length (rest o w)) (sym said ∙ wrote .said) in
-        let a : written o st t ≡ world (over o (st .written) t) fullState = rw (lt-leb (length t) (length o - st .written) (omega (arith, size))) in
-        ap (λ (x : State). world (back o w f) x) h
-        ∙ (ap (λ (b : List ℕ). world b fullState) back-is
-        ∙ (sym a ∙ sym (lay-emit m ps o st free ∙ ap (written o st) e)))
+    pub piece-laid : (m : ℕ) (ps : List Piece) (r : State) → st .full ≡ false → r ≡ settledBy p st → render m ps ≡ t → world (back o w f) r ≡ lay m (emit ps) (world o st)
+    piece-laid m ps r free h e =
+        ap (λ (x : State). world (back o w f) x) (h ∙ go p refl)
+        ∙ (ap (λ (b : List ℕ). world b (written o st t .st)) back-is
+        ∙ sym (lay-emit m ps o st free ∙ ap (written o st) e))
+      where
+        go : (q : Put) → p ≡ q → settledBy q st ≡ fitted (leb (length t) (length o - st .written)) (record { place = st .place; error = st .error; damaged = st .damaged; written = st .written + length t; full = false }) fullState
+        go (Done n) said = let q = fits n said in rw (le-leb (length t) (length o - st .written) (q .1), ← q .0, free)
+        go NoRoom said = let k = short (length t) (length (rest o w)) (sym said ∙ wrote .said) in rw (lt-leb (length t) (length o - st .written) (omega (arith, size)))
 
 -- ---- the text of one piece in a mode that prints
 pub one-piece : (m : ℕ) (p : Piece) → (m ≡ 0 → ⊥) → (t : List ℕ) → spell (isShort (m - 1)) p ≡ t → render m (p ∷ []) ≡ t

@@ -1,13 +1,13 @@
 -- What the readings of more than one part answer, from what they were answered. Assumes nothing.
 use mathlib.Core.Path.{_≡_, refl, sym, ap, _∙_}
-use mathlib.Core.Bool.{Bool, true, false, not}
-use mathlib.Core.List.{List, [], _∷_}
+use mathlib.Core.Bool.{Bool, true, false}
+use mathlib.Core.List.{List}
 use Prim.Native.Nat.{ℕ, zero, suc, _+_, _-_, _≤_, _<_}
 use native.Mathlib.Omega.{arith}
 use borrow.Author.Needs.{needs}
-use borrow.Author.Tests.{eq-eqb, ne-eqb, eqb-true}
+use borrow.Author.Tests.{eq-eqb, ne-eqb, eqb-true, lt-ltb, le-ltb}
 use lib.Dec.{eqb}
-use lib.ListN.{length, take, drop, getD}
+use lib.ListN.{length, take, drop, getD, List·getD-eq-default}
 use Rattle.parser.specs.Digits.{if-then, digits}
 use Rattle.parser.specs.Scalar.{isScalar}
 use Rattle.parser.specs.Bytes.{past, spaceAt}
@@ -26,17 +26,35 @@ use Rattle.nibbles.specs.Uint.{hexValue}
 use Rattle.nibbles.specs.Chars.{isText}
 use Rattle.nibbles.specs.declared.uint.Hex.{Hex}
 use Rattle.nibbles.specs.declared.uint.Hex.the-variants.{Small, Big, Invalid as NoHex}
-use Rattle.printer.specs.Readings.{letterOf, letterAt, calledBy, calledOf, namedAt, lifeAt, abiOf, abiAt, behindUnsafe, headAt, flagOf, flagAt, scalarOf, scalarAt, literalOf, literalAt}
-use Rattle.printer.specs.declared.read.Letter.{Letter}
+use Rattle.printer.specs.Readings.{tagAt, markAt, letterOf, letterAt, calledBy, calledOf, namedAt, lifeAt, abiOf, abiAt, behindUnsafe, headAt, flagOf, flagAt, scalarOf, scalarAt, literalOf, literalAt}
 use Rattle.printer.specs.declared.read.Letter.the-variants.{Of as Ns, Invalid as NoLetter}
-use Rattle.printer.specs.declared.read.Named.{Named}
 use Rattle.printer.specs.declared.read.Named.the-variants.{Of as Called, Invalid as NoNamed}
 use Rattle.printer.specs.declared.read.Head.{Head}
 use Rattle.printer.specs.declared.read.Head.the-variants.{Of as Before, Invalid as NoHead}
-use Rattle.printer.specs.declared.read.Flag.{Flag}
 use Rattle.printer.specs.declared.read.Flag.the-variants.{Of as Is, Invalid as NoFlag}
-use Rattle.printer.specs.declared.read.Literal.{Literal}
 use Rattle.printer.specs.declared.read.Literal.the-variants.{Of as Spelt, Invalid as NoLiteral}
+
+-- ---- a byte and the place behind it
+pub look-in : (s : List ℕ) (at : ℕ) → at < length s → record { byte = getD s at 0; behind = at + 1 } ≡ tagAt s at
+unfolding tagAt
+look-in s at h = rw (lt-ltb at (length s) h) refl
+
+pub look-out : (s : List ℕ) (at : ℕ) → length s ≤ at → record { byte = 0; behind = at } ≡ tagAt s at
+unfolding tagAt
+look-out s at h = rw (le-ltb at (length s) h, List·getD-eq-default s 0 {n = at} h) refl
+
+pub ruleset look-laws = (look-in, look-out, needs)
+
+-- ---- the `e` of a string behind a tag
+pub mark-ref : (s : List ℕ) (at tag r : ℕ) → tag ≡ 82 → r ≡ past 101 s at → r ≡ markAt s at tag
+unfolding markAt
+mark-ref s at tag r h k = rw (eq-eqb tag 82 h) k
+
+pub mark-none : (s : List ℕ) (at tag : ℕ) → (tag ≡ 82 → ⊥) → at ≡ markAt s at tag
+unfolding markAt
+mark-none s at tag h = rw (ne-eqb tag 82 h)
+
+pub ruleset mark-laws = (mark-ref, mark-none, needs)
 
 -- ---- a namespace: n is what `namespace` answered
 module _ (s : List ℕ) (at : ℕ) (n : Space) (answered : n ≡ spaceAt s at) where

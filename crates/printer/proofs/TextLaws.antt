@@ -1,26 +1,25 @@
 -- What the functions of `text` come to: the text of each piece, and the words that go by a test. Assumes nothing.
-use Prim.Native.Nat.{ℕ, zero, suc, _-_}
-use mathlib.Core.Path.{_≡_, refl, ap, sym, _∙_}
+use Prim.Native.Nat.{ℕ, zero, suc}
+use mathlib.Core.Path.{_≡_, refl, sym, _∙_}
 use mathlib.Core.Bool.{Bool, true, false, not}
 use mathlib.Core.List.{List, [], _∷_, append-nil}
-use native.Mathlib.Omega.{arith}
 use borrow.Author.Needs.{needs}
 use borrow.Author.Tests.{eq-eqb, ne-eqb}
 use lib.Dec.{eqb}
-use Rattle.parser.specs.Digits.{if-then}
 use Rattle.pieces.specs.Words.{wordAt}
 use Rattle.pieces.specs.Numeral.{decimal, hashText, lifeText}
 use Rattle.pieces.specs.Basic.{basicName}
 use Rattle.pieces.specs.Quoted.{quoted}
 use Rattle.pieces.specs.Names.{nameText, abiText}
-use Rattle.pieces.specs.Piece.{Piece, word, letter, run, abi, name, number, hash, life, basic, kind, quote, spell, spelled, render, isShort, unless}
-use Rattle.printer.specs.declared.state.State.{State}
-use Rattle.printer.specs.Says.{U, emit, onError, breaks, broken}
+use Rattle.pieces.specs.Piece.{Piece, word, letter, run, abi, name, number, hash, life, basic, kind, quote, spell, spelled, render}
+use Rattle.printer.specs.Lay.{State}
+use Rattle.printer.specs.Says.{emit, onError, breaks, broken}
 use Rattle.printer.specs.Lay.{World, world, lay, failedAt}
 use Rattle.printer.specs.Model.{sayIf}
-use Rattle.printer.proofs.LayLaws.{lay-nil, lay-spell, lay-same, lay-breaks, render-nil, doing-run, doing-stop}
-use Rattle.printer.proofs.ArmLaws.{arm-full}
-use Rattle.printer.proofs.PieceLaws.{one-piece, quiet-full, quiet-off, starts-within, sum-fits, piece-done, piece-full}
+use Rattle.printer.proofs.LayLaws.{lay-nil, lay-spell, lay-same, lay-breaks, render-nil, doing-run}
+use Rattle.printer.proofs.ArmLaws.{arm-full, arm-error}
+use Rattle.printer.proofs.StateLaws.{Halted, tests}
+use Rattle.printer.proofs.PieceLaws.{one-piece, quiet-full, quiet-off, starts-within, sum-fits, piece-laid}
 
 -- ---- the text of a piece, in a mode that prints
 module _ (m : ℕ) (shows : m ≡ 0 → ⊥) where
@@ -60,7 +59,7 @@ module _ (m : ℕ) (shows : m ≡ 0 → ⊥) where
   unfolding spell
   quote-text q cs = one-piece m (quote q cs) shows (quoted q cs) refl
 
-pub ruleset piece-laws = (quiet-full, quiet-off, starts-within, sum-fits, piece-done, piece-full, word-text, letter-text, run-text, abi-text, name-text, number-text, life-text, basic-text, quote-text, needs)
+pub ruleset piece-laws = (quiet-full, quiet-off, starts-within, sum-fits, piece-laid, word-text, letter-text, run-text, abi-text, name-text, number-text, life-text, basic-text, quote-text, tests, needs)
 
 -- ---- what only a plain text shows
 plain-only : (m : ℕ) (p : Piece) → spell true p ≡ [] → (m ≡ 1 → ⊥) → render m (p ∷ []) ≡ []
@@ -84,7 +83,7 @@ pub hash-text : (m n : ℕ) → m ≡ 1 → (n ≡ 0 → ⊥) → render m (hash
 unfolding spell spelled render
 hash-text m n h z = rw (h, ne-eqb n 0 z) (append-nil (hashText n))
 
-pub ruleset hash-laws = (quiet-full, hash-short, hash-zero, hash-text, starts-within, sum-fits, piece-done, piece-full, needs)
+pub ruleset hash-laws = (quiet-full, hash-short, hash-zero, hash-text, starts-within, sum-fits, piece-laid, tests, needs)
 
 pub kind-short : (m c : ℕ) (v : World) → (m ≡ 1 → ⊥) → v ≡ lay m (emit (kind c ∷ [])) v
 unfolding spell
@@ -124,11 +123,11 @@ pub error-none : (m : ℕ) (ps : List Piece) (o : List ℕ) (st : State) → st 
 unfolding emit onError
 error-none m ps o st e = sym (lay-nil m (world o st)) ∙ lay-same m (emit []) (onError ps) (world o st) (doing-run (emit []) (onError ps) (st .place) (st .error) e refl)
 
-pub error-some : (m : ℕ) (ps : List Piece) (o : List ℕ) (st : State) (w : World) → (st .error ≡ 0 → ⊥) → w ≡ lay m (emit ps) (world o st) → w ≡ lay m (onError ps) (world o st)
+pub error-some : (m : ℕ) (ps : List Piece) (o : List ℕ) (st : State) (w : World) → Halted st → w ≡ lay m (emit ps) (world o st) → w ≡ lay m (onError ps) (world o st)
 unfolding emit onError
-error-some m ps o st w e p = p ∙ lay-same m (emit ps) (onError ps) (world o st) (doing-stop (emit ps) (onError ps) (st .place) (st .error) e refl)
+error-some m ps o st w e p = arm-error m (onError ps) (emit ps) o st w e p refl
 
-pub ruleset error-laws = (arm-full, error-none, error-some, needs)
+pub ruleset error-laws = (arm-full, error-none, error-some, tests, needs)
 
 pub mark-invalid : (m : ℕ) (o : List ℕ) (st mk : State) (w : World) → st .full ≡ false → mk ≡ failedAt 1 st → w ≡ lay m (emit (word 0 ∷ [])) (world o mk) → w ≡ lay m broken (world o st)
 unfolding broken
@@ -137,4 +136,4 @@ mark-invalid m o st mk w f h p = p ∙ lay-breaks m 0 o st mk f h
 pub mark-deep : (m : ℕ) (o : List ℕ) (st mk : State) (w : World) → st .full ≡ false → mk ≡ failedAt 2 st → w ≡ lay m (emit (word 1 ∷ [])) (world o mk) → w ≡ lay m (breaks 1) (world o st)
 mark-deep m o st mk w f h p = p ∙ lay-breaks m 1 o st mk f h
 
-pub ruleset mark-laws = (arm-full, mark-invalid, mark-deep, needs)
+pub ruleset mark-laws = (arm-full, mark-invalid, mark-deep, tests, needs)

@@ -1,10 +1,10 @@
 -- What was read lies in the symbol: the places of an identifier's parts, of an ABI's name, of nibbles; and a character is one. Assumes nothing.
-use Prim.Native.Nat.{ℕ, zero, suc, _+_, _-_, _^_, _≤_, _<_}
+use Prim.Native.Nat.{ℕ, _+_, _-_, _^_, _≤_, _<_}
 use mathlib.Core.Path.{_≡_, refl, ap, sym, _∙_}
 use mathlib.Core.Bool.{Bool, true, false}
-use mathlib.Core.List.{List, [], _∷_}
+use mathlib.Core.List.{List}
 use native.Mathlib.Omega.{arith}
-use borrow.Author.Tests.{eqb-true, eqb-false, ltb-true}
+use borrow.Author.Tests.{eqb-true, ltb-true}
 use lib.Dec.{eqb, ltb, leb}
 use lib.ListN.{length, take, drop, getD, length-take, length-drop}
 use Rattle.parser.specs.Digits.{if-then, digits, value}

@@ -1,15 +1,35 @@
 -- What a printer does, in code's terms: a buffer and the code's state, before and after. Assumes nothing: these are definitions.
 use Prim.Native.Nat.{ℕ, zero, suc, _+_, _-_}
-use mathlib.Core.List.{List, []}
-use mathlib.Core.Bool.{Bool, true, false, _||_}
-use lib.ListN.{length}
-use lib.Dec.{leb}
-use Rattle.printer.specs.declared.state.State.{State}
-use Rattle.printer.specs.declared.state.Counted.{Counted}
-use Rattle.printer.specs.declared.state.Told.{Told}
+use mathlib.Core.List.{List}
+use mathlib.Core.Bool.{Bool, true, false, not, _||_}
+use mathlib.Core.Path.{_≡_}
+use lib.ListN.{length, getD}
+use lib.Dec.{leb, eqb}
+use Rattle.parser.specs.Digits.{if-then}
 use Rattle.printer.specs.Over.{over}
 use Rattle.printer.specs.Says.{U, Res, ok, bad, Says, stop}
 use Rattle.pieces.specs.Piece.{Piece, render}
+use Rattle.pieces.specs.declared.put.Put.{Put}
+use Rattle.pieces.specs.declared.put.Put.the-variants.{Done, NoRoom}
+
+-- where the printer stands, and what has become of the buffer
+pub record State : Type 0 where
+  pub place : ℕ
+  pub error : ℕ
+  pub damaged : Bool
+  pub written : ℕ
+  pub full : Bool
+
+-- the code's four numbers: the place; the error, or 3 where the buffer is full; whether a target was damaged; the bytes written
+abbrev pub stateOf : List ℕ → State
+stateOf l =
+    record {
+      place = getD l 0 0;
+      error = if-then (eqb (getD l 1 0) 3) 0 (getD l 1 0);
+      damaged = not (eqb (getD l 2 0) 0);
+      written = getD l 3 0;
+      full = eqb (getD l 1 0) 3;
+    }
 
 pub record World : Type 0 where
   pub buf : List ℕ
@@ -26,11 +46,17 @@ pub record Out (A : Type 0) : Type 0 where
 abbrev pub out : {A : Type 0} → A → World → Out A
 out v w = record { value = v; world = w }
 
-abbrev pub counted : List ℕ → Counted → Out ℕ
-counted b r = out (r .count) (world b (r .st))
+-- a buffer and the code's numbers; with what a function answers
+abbrev pub at : List ℕ → List ℕ → World
+at b l = world b (stateOf l)
 
-abbrev pub told : List ℕ → Told → Out Bool
-told b r = out (r .is) (world b (r .st))
+abbrev pub given : {A : Type 0} → A → List ℕ → List ℕ → Out A
+given v b l = out v (at b l)
+
+-- with no error and room
+pub record Going (s : State) : Type 0 where
+  pub room : s .full ≡ false
+  pub none : s .error ≡ 0
 
 -- the parts of a result; the error as the code numbers it
 abbrev pub valueOf : {A : Type 0} → Res A → A
@@ -57,10 +83,6 @@ piecesOf (bad a x j d o) = o
 unfoldable pub doing : {A : Type 0} → Says A → ℕ → ℕ → Res A
 doing a p zero = a .run p
 doing a p (suc x) = stop a x p
-
--- a state with no error and room, by its fields
-abbrev pub good : ℕ → Bool → ℕ → State
-good p d n = record { place = p; error = 0; damaged = d; written = n; full = false }
 
 -- the state of a buffer that is full says nothing else
 abbrev pub fullState : State
@@ -113,11 +135,23 @@ backOn false p s = record { place = p; error = 0; damaged = s .damaged || isErro
 abbrev pub backTo : ℕ → State → State
 backTo p s = backOn (s .full) p s
 
+abbrev pub hurtAt : ℕ → State → State
+hurtAt p s = record { place = p; error = 0; damaged = true; written = s .written; full = false }
+
 abbrev pub failedAt : ℕ → State → State
 failedAt x s = record { place = s .place; error = x; damaged = s .damaged; written = s .written; full = s .full }
 
 abbrev pub advancedBy : ℕ → State → State
 advancedBy n s = record { place = s .place; error = s .error; damaged = s .damaged; written = s .written + n; full = s .full }
+
+-- after a piece: what a writer answered
+abbrev pub sumOf : Put → State → ℕ
+sumOf (Done n) s = s .written + n
+sumOf NoRoom s = 0
+
+abbrev pub settledBy : Put → State → State
+settledBy (Done n) s = advancedBy n s
+settledBy NoRoom s = fullState
 
 -- what is off follows no back reference and looks no lifetime up
 abbrev pub follows : ℕ → Bool

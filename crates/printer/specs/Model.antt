@@ -4,7 +4,7 @@
 use mathlib.Core.Bool.{Bool, true, false, not}
 use mathlib.Core.List.{List, [], _∷_, _++_}
 use Prim.Native.Nat.{ℕ, zero, suc, _+_, _-_, _^_, min}
-use lib.Dec.{leb, ltb, eqb}
+use lib.Dec.{leb, eqb}
 use lib.ListN.{length, take, drop}
 use Rattle.parser.specs.Digits.{if-then}
 use Rattle.parser.specs.Bytes.{past, byteAt}
@@ -25,7 +25,7 @@ use Rattle.pieces.specs.Basic.{isBasic}
 use Rattle.pieces.specs.Quoted.{charsOf}
 use Rattle.pieces.specs.Piece.{Piece, word, letter, run, abi, name, number, hash, life, basic, kind, quote}
 use Rattle.pieces.specs.Words as W
-use Rattle.printer.specs.Says.{U, invalid, tooDeep, Res, ok, bad, Says, refused, next, _>>=_, _then_, give, emit, onError, broken, reader, still, Got, got, lost, taken, need, choose, mute, caught, Tags, pick}
+use Rattle.printer.specs.Says.{U, invalid, tooDeep, Res, ok, bad, Says, refused, next, _>>=_, _then_, give, emit, onError, broken, reader, still, Got, got, lost, need, choose, mute, caught, Tags, pick}
 use Rattle.printer.specs.Readings.{letterAt, namedAt, lifeAt, headAt, flagAt, scalarAt, literalAt}
 use Rattle.printer.specs.declared.read.Letter.{Letter}
 use Rattle.printer.specs.declared.read.Letter.the-variants.{Of as Ns, Invalid as NoLetter}
@@ -37,8 +37,10 @@ use Rattle.printer.specs.declared.read.Flag.{Flag}
 use Rattle.printer.specs.declared.read.Flag.the-variants.{Of as Is, Invalid as NoFlag}
 use Rattle.printer.specs.declared.read.Literal.{Literal}
 use Rattle.printer.specs.declared.read.Literal.the-variants.{Of as Spelt, Invalid as NoLiteral}
-use Rattle.printer.specs.declared.cycle.Kind.{Kind}
-use Rattle.printer.specs.declared.cycle.Kind.the-variants.{Path, Value as InValue, Ty, Bare, Arg, Const, Expr, Field, Trait, Pat}
+use Rattle.printer.specs.declared.kinds.Kind.{Kind}
+use Rattle.printer.specs.declared.kinds.Kind.the-variants.{Path, Value as InValue, Ty, Const, Expr}
+use Rattle.printer.specs.declared.kinds.Item.{Item}
+use Rattle.printer.specs.declared.kinds.Item.the-variants.{Ty as AType, Arg, Expr as AValue, Field, Trait}
 
 -- ---- the letters of the grammar
 abbrev pub 'A' : ℕ
@@ -311,17 +313,12 @@ unfoldable pub binder : ℕ → ℕ → List Piece
 binder b n = if-then (eqb n 0) [] (word W.for ∷ (lives b 0 n ++ (word W.for-end ∷ [])))
 
 -- the separator of a list
-unfoldable pub sepOf : Kind → ℕ
-sepOf Path = W.comma-blank
-sepOf InValue = W.comma-blank
-sepOf Ty = W.comma-blank
-sepOf Bare = W.comma-blank
+unfoldable pub sepOf : Item → ℕ
+sepOf AType = W.comma-blank
 sepOf Arg = W.comma-blank
-sepOf Const = W.comma-blank
-sepOf Expr = W.comma-blank
+sepOf AValue = W.comma-blank
 sepOf Field = W.comma-blank
 sepOf Trait = W.plus
-sepOf Pat = W.comma-blank
 
 -- by follow and binder count; and the target of a back reference, by its place
 abbrev pub Deep : Type 0 → Type 0
@@ -358,8 +355,18 @@ module _ (s : List ℕ) where
   unfoldable pub lifetime : Deep U
   lifetime f b = need (λ i. gotNum (integer62 s i)) tt (lifeOf f b)
 
+  unfoldable pub boundLife : Deep U
+  boundLife f b = need (λ i. gotNum (integer62 s i)) tt (endLife f b)
+
   unfoldable pub bound : Deep U
-  bound f b = eat 'L' >>= λ y. choose y (need (λ i. gotNum (integer62 s i)) tt (endLife f b)) broken
+  bound f b = eat 'L' >>= λ y. choose y (boundLife f b) broken
+
+  -- a reference's sign, its lifetime if that is not 0, and `mut`; the value says whether the type comes behind them
+  unfoldable pub refRest : Bool → Deep Bool
+  refRest isMut f b = need (λ i. gotNum (lifeAt s i)) false (λ lt. refLife f b lt then sayIf isMut W.mut then give true)
+
+  unfoldable pub reference : Bool → Deep Bool
+  reference isMut f b = say W.ref then refRest isMut f b
 
   -- the ABI of a function pointer: 0 none, 1 `C`, 2 the name between two places
   unfoldable pub abiPieces : ℕ → ℕ → List Piece
@@ -370,6 +377,10 @@ module _ (s : List ℕ) where
 
   unfoldable pub headPieces : Bool → ℕ → ℕ → ℕ → List Piece
   headPieces u k a b = if-then u (word W.unsafe ∷ []) [] ++ (whichAbi k a b ++ (word W.fn ∷ []))
+
+  -- what stands before the parameters; the value says whether they come behind it
+  unfoldable pub sigHead : Says Bool
+  sigHead = need (λ i. gotHead (headAt s i)) false (λ h. emit (headPieces (h .isUnsafe) (h .which) (h .a) (h .b)) then give true)
 
   -- an integer that does not fit 64 bits by its nibbles
   unfoldable pub largePieces : ℕ → ℕ → ℕ → List Piece
@@ -389,8 +400,12 @@ module _ (s : List ℕ) where
   unfoldable pub integer : ℕ → ℕ → ℕ → Res U
   integer c i j = if-then (isUnsigned c) (uint c .run j) (if-then (isSigned c) (int c .run j) (refused tt invalid i))
 
-  unfoldable pub integerAt : ℕ → ℕ → Says U
-  integerAt c j = reader tt (λ i. integer c i j)
+  unfoldable pub integerAt : Says U
+  integerAt = byTag tt [] integer
+
+  -- what needs a level where none is left
+  unfoldable pub noLevel : Says U
+  noLevel = byTag tt [] (λ c i j. refused tt tooDeep i)
 
   unfoldable pub boolean : Says U
   boolean = need (λ i. gotFlag (flagAt s i)) tt (λ t. say (if-then t W.true W.false))
@@ -495,35 +510,31 @@ module _ (s : List ℕ) where
     unfoldable pub dynTrait : Deep U
     dynTrait f b = openPath f b >>= λ o. bindings (length s) o f b
 
-    -- a part of any kind
+    -- what a back reference leads to; what stands in a list
     unfoldable pub says : Kind → Deep U
     says Path f b = p .path false f b
     says InValue f b = p .path true f b
     says Ty f b = type f b
-    says Bare f b = p .bare f b
-    says Arg f b = arg f b
     says Const f b = p .con false f b
     says Expr f b = p .con true f b
-    says Field f b = field f b
-    says Trait f b = dynTrait f b
-    says Pat f b = pat f b
 
-    unfoldable pub list : Kind → Bool → ℕ → Says ℕ
-    list k f b = listOf (sepOf k) (says k f b)
+    unfoldable pub element : Item → Deep U
+    element AType f b = type f b
+    element Arg f b = arg f b
+    element AValue f b = p .con true f b
+    element Field f b = field f b
+    element Trait f b = dynTrait f b
+
+    unfoldable pub list : Item → Bool → ℕ → Says ℕ
+    list k f b = listOf (sepOf k) (element k f b)
 
     -- I: a path with generic arguments
     unfoldable pub generic : Bool → Deep U
     generic value f b = p .path value f b then say (if-then value W.value-less W.less) then list Arg f b then say W.more
 
-    -- R, Q: a reference, with a lifetime that is not 0
-    unfoldable pub mutType : Bool → Deep U
-    mutType isMut f b = sayIf isMut W.mut then type f b
-
-    unfoldable pub pointee : Bool → Deep U
-    pointee isMut f b = need (λ i. gotNum (lifeAt s i)) tt (λ lt. refLife f b lt then mutType isMut f b)
-
+    -- R, Q: a reference
     unfoldable pub refer : Bool → Deep U
-    refer isMut f b = say W.ref then pointee isMut f b
+    refer isMut f b = reference isMut f b >>= λ more. choose more (type f b) (emit [])
 
     -- P, O: a pointer behind its word
     unfoldable pub pointer : ℕ → Deep U
@@ -537,7 +548,7 @@ module _ (s : List ℕ) where
     array sized f b = say W.bracket then type f b then size sized f b then say W.bracket-end
 
     -- T: a tuple of types or of constants; one alone keeps its comma
-    unfoldable pub tuple : Kind → Deep U
+    unfoldable pub tuple : Item → Deep U
     tuple k f b = say W.paren then (list k f b >>= λ n. sayIf (eqb n 1) W.comma then say W.paren-end)
 
     -- F: a function pointer, whose binder counts for what follows
@@ -548,10 +559,10 @@ module _ (s : List ℕ) where
     result f b = eat 'u' >>= λ y. choose y (emit []) (arrow f b)
 
     unfoldable pub parameters : Deep U
-    parameters f b = list Ty f b then say W.paren-end then result f b
+    parameters f b = list AType f b then say W.paren-end then result f b
 
     unfoldable pub signature : Deep U
-    signature f b = need (λ i. gotHead (headAt s i)) tt (λ h. emit (headPieces (h .isUnsafe) (h .which) (h .a) (h .b)) then parameters f b)
+    signature f b = sigHead >>= λ more. choose more (parameters f b) (emit [])
 
     unfoldable pub function : Deep U
     function f b = need (λ i. gotNum (optional62 'G' s i)) tt (λ n. emit (binder b n) then signature f (held (b + n)))
@@ -572,16 +583,15 @@ module _ (s : List ℕ) where
     referTo isMut f b = say W.ref then sayIf isMut W.mut then p .con true f b
 
     -- from a word to a word
-    unfoldable pub between : ℕ → Kind → ℕ → Deep U
+    unfoldable pub between : ℕ → Item → ℕ → Deep U
     between from k to f b = say from then list k f b then say to
 
     -- by the tag: the body, in braces; but a reference to a string is the string
     unfoldable pub bodyBy : ℕ → Deep U
     bodyBy tag f b =
         choose (eqb tag 'e') unsizedLiteral
-        (choose (eqb tag 'A') (between W.bracket Expr W.bracket-end f b)
-        (choose (eqb tag 'T') (tuple Expr f b)
-        (choose (eqb tag 'Q') (referTo true f b) (referTo false f b))))
+        (choose (eqb tag 'A') (between W.bracket AValue W.bracket-end f b)
+        (choose (eqb tag 'T') (tuple AValue f b) (referTo (eqb tag 'Q') f b)))
 
     unfoldable pub bracedBy : ℕ → Bool → Deep U
     bracedBy tag value f b = sayIf (not value) W.brace then bodyBy tag f b then sayIf (not value) W.close
@@ -589,15 +599,18 @@ module _ (s : List ℕ) where
     unfoldable pub refConst : Bool → Deep U
     refConst value f b = eat 'e' >>= λ y. choose y literal (bracedBy 'R' value f b)
 
+    unfoldable pub litBy : ℕ → Bool → Deep U
+    litBy tag value f b = choose (eqb tag 'R') (refConst value f b) (bracedBy tag value f b)
+
     -- V: a value of a struct or an enum: its path, and its fields. Where those are not read, no brace closes it
-    unfoldable pub fields : ℕ → Kind → ℕ → Bool → Deep U
+    unfoldable pub fields : ℕ → Item → ℕ → Bool → Deep U
     fields from k to value f b = between from k to f b then sayIf (not value) W.close
 
     unfoldable pub variant : Bool → Deep U
     variant value f b =
         byTag tt
         (('U', sayIf (not value) W.close) ∷
-        ('T', fields W.paren Expr W.paren-end value f b) ∷
+        ('T', fields W.paren AValue W.paren-end value f b) ∷
         ('S', fields W.fields Field W.fields-end value f b) ∷ [])
         unknown
 
@@ -623,11 +636,18 @@ module _ (s : List ℕ) where
         ('O', pointer W.ptr-mut f b) ∷
         ('A', array true f b) ∷
         ('S', array false f b) ∷
-        ('T', tuple Ty f b) ∷
+        ('T', tuple AType f b) ∷
         ('F', function f b) ∷
         ('D', object f b) ∷
         ('B', back Ty f b) ∷
         ('W', patterned f b) ∷ []
+
+    -- a type that is none of these is its path
+    unfoldable pub named : Deep U
+    named f b = byTag tt [] (λ c i j. p .path false f b .run i)
+
+    unfoldable pub typed : Deep U
+    typed f b = byTag tt (typeTags f b) (λ c i j. p .path false f b .run i)
 
     unfoldable pub constTags : Bool → Bool → ℕ → Tags U
     constTags value f b =

@@ -1,13 +1,13 @@
 -- What the printer reads at once, as a value and the next place. Assumes nothing: these are definitions.
 use mathlib.Core.Bool.{Bool, true, false, not}
-use mathlib.Core.List.{List, [], _∷_}
-use Prim.Native.Nat.{ℕ, zero, suc, _-_, _≤_}
-use lib.Dec.{eqb}
-use lib.ListN.{length, take, drop}
+use mathlib.Core.List.{List}
+use Prim.Native.Nat.{ℕ, zero, suc, _+_, _-_, _≤_}
+use lib.Dec.{eqb, ltb}
+use lib.ListN.{length, take, drop, getD}
 use Rattle.parser.specs.Digits.{if-then}
 use Rattle.parser.specs.Scalar.{isScalar}
-use Rattle.parser.specs.Bytes.{past, byteAt, spaceAt}
-use Rattle.parser.specs.Number.{integer62, optional62, hexAt, backAt}
+use Rattle.parser.specs.Bytes.{past, spaceAt}
+use Rattle.parser.specs.Number.{integer62, optional62, hexAt}
 use Rattle.parser.specs.Names.{identAt}
 use Rattle.parser.specs.declared.bytes.Space.{Space}
 use Rattle.parser.specs.declared.bytes.Space.the-variants.{Special, Plain, Invalid as NoSpace}
@@ -15,14 +15,13 @@ use Rattle.parser.specs.declared.number.Num.{Num}
 use Rattle.parser.specs.declared.number.Num.the-variants.{Value, Invalid as NoNum}
 use Rattle.parser.specs.declared.number.Nibbles.{Nibbles}
 use Rattle.parser.specs.declared.number.Nibbles.the-variants.{To, Invalid as NoNibbles}
-use Rattle.parser.specs.declared.number.Back.{Back}
-use Rattle.parser.specs.declared.number.Back.the-variants.{Target, Invalid as NoBack}
 use Rattle.parser.specs.declared.names.Name.{Name}
 use Rattle.parser.specs.declared.names.Name.the-variants.{Parts, Invalid as NoName}
 use Rattle.nibbles.specs.Uint.{hexValue}
 use Rattle.nibbles.specs.Chars.{isText}
 use Rattle.nibbles.specs.declared.uint.Hex.{Hex}
 use Rattle.nibbles.specs.declared.uint.Hex.the-variants.{Small, Big, Invalid as NoHex}
+use Rattle.printer.specs.declared.read.Tag.{Tag}
 use Rattle.printer.specs.declared.read.Letter.{Letter}
 use Rattle.printer.specs.declared.read.Letter.the-variants.{Of as Ns, Invalid as NoLetter}
 use Rattle.printer.specs.declared.read.Named.{Named}
@@ -33,6 +32,14 @@ use Rattle.printer.specs.declared.read.Flag.{Flag}
 use Rattle.printer.specs.declared.read.Flag.the-variants.{Of as Is, Invalid as NoFlag}
 use Rattle.printer.specs.declared.read.Literal.{Literal}
 use Rattle.printer.specs.declared.read.Literal.the-variants.{Of as Spelt, Invalid as NoLiteral}
+
+-- the byte at a place, 0 past the end, and the place behind it
+unfoldable pub tagAt : List ℕ → ℕ → Tag
+tagAt s at = record { byte = getD s at 0; behind = if-then (ltb at (length s)) (at + 1) at }
+
+-- behind a tag R, the place behind an e
+unfoldable pub markAt : List ℕ → ℕ → ℕ → ℕ
+markAt s at tag = if-then (eqb tag 82) (past 101 s at) at
 
 -- a namespace: the letter of a special one, 0 for another
 abbrev pub letterOf : Space → Letter

@@ -3,7 +3,6 @@ use mathlib.Core.Bool.{Bool, true, false, _||_}
 use mathlib.Core.List.{List, [], _∷_, _++_}
 use Prim.Native.Nat.{ℕ, zero, suc}
 use lib.Dec.{eqb}
-use Rattle.parser.specs.Digits.{if-then}
 use Rattle.pieces.specs.Piece.{Piece, word}
 use Rattle.pieces.specs.Words as W
 use Rattle.pieces.specs.Words.{ask}
@@ -136,10 +135,6 @@ mute a = record { run = λ i. hush (a .run i); stopped = record { value = a .sto
 unfoldable pub caught : {A : Type 0} → Res A → ℕ → Res A
 caught (ok a k d o) j = ok a j d o
 caught (bad a x k d o) j = ok a j true o
-
-unfoldable pub aside : {A : Type 0} → A → ℕ → Says A → Says A
-unfolding caught reader
-aside z v a = reader z (λ j. caught (a .run v) j)
 
 -- the first tag that the byte c is: it goes on behind it, at j. Where c is none of them, the other goes on at the byte's place i
 abbrev pub Tags : Type 0 → Type 0

@@ -1,20 +1,17 @@
-// The cycle: paths, generic arguments, types, trait objects, patterns and constants contain one another. Each worker reads one kind
-// of part in a good state, by its fields; `part` is the face of them all, for any state. Levels left fall from call to call.
+// The cycle: paths, generic arguments, types, trait objects, patterns and constants contain one another. Levels left fall from call to
+// call. A function with no `requires` goes by the state that it finds; one that asks for a state with no error and room is called only
+// where that has been looked at.
+use crate::kinds::Item;
+use crate::kinds::Kind;
 use crate::leaf;
-use crate::read::Head;
 use crate::read::Letter;
 use crate::read::Named;
-use crate::state::Counted;
-use crate::state::State;
-use crate::state::Told;
+use crate::read::look;
 use crate::state::back_to;
-use crate::state::failed;
-use crate::state::moved;
-use crate::state::plain;
+use crate::state::fail;
+use crate::state::go;
 use crate::text;
-use parser::bytes::Byte;
 use parser::bytes::eat;
-use parser::bytes::next;
 use parser::names::Name;
 use parser::number::Back;
 use parser::number::Num;
@@ -25,169 +22,72 @@ ghost use mathlib.Core.Path.{_≡_};
 ghost use mathlib.Core.Bool.{false};
 ghost use lib.ListN.{length};
 ghost use Rattle.parser.specs.Digits.{if-then};
-ghost use Rattle.printer.specs.Lay.{World, world, lay, good, Out, counted, told, lays, follows};
+ghost use Rattle.printer.specs.Lay.{Going, stateOf, at, given, lay, lays, follows};
 ghost use Rattle.printer.specs.Model as g;
 
-// The kinds of part. A path in a value has `::` before its generics, a constant in a value no braces; a bare type has no `w`.
-pub enum Kind {
-    Path,
-    Value,
-    Ty,
-    Bare,
-    Arg,
-    Const,
-    Expr,
-    Field,
-    Trait,
-    Pat,
-}
-
-// A part, whatever the state.
-pub fn part(
-    s: &[u8],
-    out: &mut [u8],
-    st: State,
-    kind: Kind,
-    left: usize,
-    binder: u64,
-    mode: u8,
-) -> State
-    ensures { λ r. ⌜ world (now (out .exit)) r ≡ lay mode (g.says (now (s .entry)) (g.level (now (s .entry)) left) kind (follows mode) binder) (world (now (out .entry)) st) ⌝ }
-{
-    if st.full {
-        return st;
-    }
-    if st.error != 0 {
-        return text::word(out, st, words::ASK, mode);
-    }
-    on(
-        s,
-        out,
-        st.place,
-        st.damaged,
-        st.written,
-        kind,
-        left,
-        binder,
-        mode,
-    )
-}
-
-// A part in a good state.
-pub fn on(
-    s: &[u8],
-    out: &mut [u8],
-    place: usize,
-    damaged: bool,
-    written: usize,
-    kind: Kind,
-    left: usize,
-    binder: u64,
-    mode: u8,
-) -> State
-    ensures { λ r. ⌜ world (now (out .exit)) r ≡ lay mode (g.says (now (s .entry)) (g.level (now (s .entry)) left) kind (follows mode) binder) (world (now (out .entry)) (good place damaged written)) ⌝ }
-{
-    match kind {
-        Kind::Path => path(s, out, place, damaged, written, false, left, binder, mode),
-        Kind::Value => path(s, out, place, damaged, written, true, left, binder, mode),
-        Kind::Ty => ty(s, out, place, damaged, written, left, binder, mode),
-        Kind::Bare => bare(s, out, place, damaged, written, left, binder, mode),
-        Kind::Arg => arg(s, out, place, damaged, written, left, binder, mode),
-        Kind::Const => con(s, out, place, damaged, written, false, left, binder, mode),
-        Kind::Expr => con(s, out, place, damaged, written, true, left, binder, mode),
-        Kind::Field => fld(s, out, place, damaged, written, left, binder, mode),
-        Kind::Trait => bind(s, out, place, damaged, written, left, binder, mode),
-        Kind::Pat => pat(s, out, place, damaged, written, left, binder, mode),
-    }
-}
-
 // A path: counts a level, then goes by its tag.
-fn path(
+pub fn path(
     s: &[u8],
     out: &mut [u8],
-    place: usize,
-    damaged: bool,
-    written: usize,
+    st: &mut [usize; 4],
     value: bool,
     left: usize,
     binder: u64,
     mode: u8,
-) -> State
-    ensures { λ r. ⌜ world (now (out .exit)) r ≡ lay mode ((g.level (now (s .entry)) left) .path value (follows mode) binder) (world (now (out .entry)) (good place damaged written)) ⌝ }
+)
+    ensures { λ _. ⌜ at (now (out .exit)) (now (st .exit)) ≡ lay mode ((g.level (now (s .entry)) left) .path value (follows mode) binder) (at (now (out .entry)) (now (st .entry))) ⌝ }
 {
-    if left == 0 {
-        return text::too_deep(out, plain(place, damaged, written), mode);
+    if st[1] != 0 {
+        text::word(out, st, words::ASK, mode);
+        return;
     }
-    let Byte::Read(b, behind) = next(s, place) else {
-        return text::invalid(out, plain(place, damaged, written), mode);
-    };
+    if left == 0 {
+        text::too_deep(out, st, mode);
+        return;
+    }
+    paths(s, out, st, value, left - 1, binder, mode);
+}
+
+fn paths(
+    s: &[u8],
+    out: &mut [u8],
+    st: &mut [usize; 4],
+    value: bool,
+    left: usize,
+    binder: u64,
+    mode: u8,
+)
+    requires { ⌜ Going (stateOf (now st)) ⌝ }
+    ensures { λ _. ⌜ at (now (out .exit)) (now (st .exit)) ≡ lay mode (g.byTag (now (s .entry)) tt (g.pathTags (now (s .entry)) (g.level (now (s .entry)) left) value (follows mode) binder) g.unknown) (at (now (out .entry)) (now (st .entry))) ⌝ }
+{
+    let t = look(s, st[0]);
+    let b = t.byte;
     match b {
-        b'C' => leaf::krate(s, out, behind, damaged, written, mode),
-        b'N' => nest(
-            s,
-            out,
-            behind,
-            damaged,
-            written,
-            value,
-            left - 1,
-            binder,
-            mode,
-        ),
-        b'M' => imp(
-            s,
-            out,
-            behind,
-            damaged,
-            written,
-            false,
-            left - 1,
-            binder,
-            mode,
-        ),
-        b'X' => imp(
-            s,
-            out,
-            behind,
-            damaged,
-            written,
-            true,
-            left - 1,
-            binder,
-            mode,
-        ),
-        b'Y' => qself(
-            s,
-            out,
-            plain(behind, damaged, written),
-            true,
-            left - 1,
-            binder,
-            mode,
-        ),
-        b'I' => gens(
-            s,
-            out,
-            behind,
-            damaged,
-            written,
-            value,
-            left - 1,
-            binder,
-            mode,
-        ),
-        b'B' => back(
-            s,
-            out,
-            behind,
-            damaged,
-            written,
-            path_kind(value),
-            left - 1,
-            binder,
-            mode,
-        ),
-        _ => text::invalid(out, plain(place, damaged, written), mode),
+        b'C' => {
+            go(st, t.behind);
+            leaf::krate(s, out, st, mode);
+        }
+        b'N' => {
+            go(st, t.behind);
+            nest(s, out, st, value, left, binder, mode);
+        }
+        b'M' | b'X' => {
+            go(st, t.behind);
+            imp(s, out, st, b == b'X', left, binder, mode);
+        }
+        b'Y' => {
+            go(st, t.behind);
+            slf(s, out, st, true, left, binder, mode);
+        }
+        b'I' => {
+            go(st, t.behind);
+            gens(s, out, st, value, left, binder, mode);
+        }
+        b'B' => {
+            go(st, t.behind);
+            back(s, out, st, path_kind(value), left, binder, mode);
+        }
+        _ => text::invalid(out, st, mode),
     }
 }
 
@@ -207,114 +107,120 @@ fn const_kind(value: bool) -> Kind
 fn nest(
     s: &[u8],
     out: &mut [u8],
-    place: usize,
-    damaged: bool,
-    written: usize,
+    st: &mut [usize; 4],
     value: bool,
     left: usize,
     binder: u64,
     mode: u8,
-) -> State
-    ensures { λ r. ⌜ world (now (out .exit)) r ≡ lay mode (g.nest (now (s .entry)) (g.level (now (s .entry)) left) value (follows mode) binder) (world (now (out .entry)) (good place damaged written)) ⌝ }
+)
+    requires { ⌜ Going (stateOf (now st)) ⌝ }
+    ensures { λ _. ⌜ at (now (out .exit)) (now (st .exit)) ≡ lay mode (g.nest (now (s .entry)) (g.level (now (s .entry)) left) value (follows mode) binder) (at (now (out .entry)) (now (st .entry))) ⌝ }
 {
-    let Letter::Of(ns, behind) = crate::read::space(s, place) else {
-        return text::invalid(out, plain(place, damaged, written), mode);
+    let Letter::Of(ns, behind) = crate::read::space(s, st[0]) else {
+        text::invalid(out, st, mode);
+        return;
     };
-    let inner = path(s, out, behind, damaged, written, value, left, binder, mode);
-    let colons = text::on_error(out, inner, words::COLONS, mode);
-    leaf::nested(s, out, colons, ns, mode)
+    go(st, behind);
+    path(s, out, st, value, left, binder, mode);
+    text::on_error(out, st, words::COLONS, mode);
+    leaf::nested(s, out, st, ns, mode);
 }
 
 // An `impl`: its own path is read and not printed.
 fn imp(
     s: &[u8],
     out: &mut [u8],
-    place: usize,
-    damaged: bool,
-    written: usize,
+    st: &mut [usize; 4],
     with: bool,
     left: usize,
     binder: u64,
     mode: u8,
-) -> State
-    ensures { λ r. ⌜ world (now (out .exit)) r ≡ lay mode (g.imp (now (s .entry)) (g.level (now (s .entry)) left) with (follows mode) binder) (world (now (out .entry)) (good place damaged written)) ⌝ }
+)
+    requires { ⌜ Going (stateOf (now st)) ⌝ }
+    ensures { λ _. ⌜ at (now (out .exit)) (now (st .exit)) ≡ lay mode (g.imp (now (s .entry)) (g.level (now (s .entry)) left) with (follows mode) binder) (at (now (out .entry)) (now (st .entry))) ⌝ }
 {
-    let Num::Value(_, behind) = opt_integer_62(s, place, b's') else {
-        return text::invalid(out, plain(place, damaged, written), mode);
+    let Num::Value(_, behind) = opt_integer_62(s, st[0], b's') else {
+        text::invalid(out, st, mode);
+        return;
     };
-    let inner = path(s, out, behind, damaged, written, false, left, binder, 0);
-    qself(s, out, inner, with, left, binder, mode)
+    go(st, behind);
+    path(s, out, st, false, left, binder, 0);
+    slf(s, out, st, with, left, binder, mode);
 }
 
 // `<type>` or `<type as trait>`
-fn qself(
+fn slf(
     s: &[u8],
     out: &mut [u8],
-    st: State,
+    st: &mut [usize; 4],
     with: bool,
     left: usize,
     binder: u64,
     mode: u8,
-) -> State
-    ensures { λ r. ⌜ world (now (out .exit)) r ≡ lay mode (g.qself (now (s .entry)) (g.level (now (s .entry)) left) with (follows mode) binder) (world (now (out .entry)) st) ⌝ }
+)
+    ensures { λ _. ⌜ at (now (out .exit)) (now (st .exit)) ≡ lay mode (g.qself (now (s .entry)) (g.level (now (s .entry)) left) with (follows mode) binder) (at (now (out .entry)) (now (st .entry))) ⌝ }
 {
-    let opened = text::word(out, st, words::LESS, mode);
-    let shown = part(s, out, opened, Kind::Ty, left, binder, mode);
-    let named = trt(s, out, shown, with, left, binder, mode);
-    text::word(out, named, words::MORE, mode)
+    text::word(out, st, words::LESS, mode);
+    ty(s, out, st, left, binder, mode);
+    trt(s, out, st, with, left, binder, mode);
+    text::word(out, st, words::MORE, mode);
 }
 
-fn trt(s: &[u8], out: &mut [u8], st: State, with: bool, left: usize, binder: u64, mode: u8) -> State
-    ensures { λ r. ⌜ world (now (out .exit)) r ≡ lay mode (g.trt (now (s .entry)) (g.level (now (s .entry)) left) with (follows mode) binder) (world (now (out .entry)) st) ⌝ }
+fn trt(
+    s: &[u8],
+    out: &mut [u8],
+    st: &mut [usize; 4],
+    with: bool,
+    left: usize,
+    binder: u64,
+    mode: u8,
+)
+    ensures { λ _. ⌜ at (now (out .exit)) (now (st .exit)) ≡ lay mode (g.trt (now (s .entry)) (g.level (now (s .entry)) left) with (follows mode) binder) (at (now (out .entry)) (now (st .entry))) ⌝ }
 {
     if with {
-        let word = text::word(out, st, words::AS, mode);
-        return part(s, out, word, Kind::Path, left, binder, mode);
+        text::word(out, st, words::AS, mode);
+        path(s, out, st, false, left, binder, mode);
     }
-    st
 }
 
 // A path with generic arguments.
 fn gens(
     s: &[u8],
     out: &mut [u8],
-    place: usize,
-    damaged: bool,
-    written: usize,
+    st: &mut [usize; 4],
     value: bool,
     left: usize,
     binder: u64,
     mode: u8,
-) -> State
-    ensures { λ r. ⌜ world (now (out .exit)) r ≡ lay mode (g.generic (now (s .entry)) (g.level (now (s .entry)) left) value (follows mode) binder) (world (now (out .entry)) (good place damaged written)) ⌝ }
+)
+    ensures { λ _. ⌜ at (now (out .exit)) (now (st .exit)) ≡ lay mode (g.generic (now (s .entry)) (g.level (now (s .entry)) left) value (follows mode) binder) (at (now (out .entry)) (now (st .entry))) ⌝ }
 {
-    let inner = path(s, out, place, damaged, written, value, left, binder, mode);
-    let opened = text::word(out, inner, leaf::less_word(value), mode);
-    let listed = list(s, out, opened, Kind::Arg, left, binder, mode);
-    let last = listed.st;
-    text::word(out, last, words::MORE, mode)
+    path(s, out, st, value, left, binder, mode);
+    text::word(out, st, leaf::less_word(value), mode);
+    list(s, out, st, Item::Arg, left, binder, mode);
+    text::word(out, st, words::MORE, mode);
 }
 
 // A generic argument.
-fn arg(
-    s: &[u8],
-    out: &mut [u8],
-    place: usize,
-    damaged: bool,
-    written: usize,
-    left: usize,
-    binder: u64,
-    mode: u8,
-) -> State
-    ensures { λ r. ⌜ world (now (out .exit)) r ≡ lay mode (g.arg (now (s .entry)) (g.level (now (s .entry)) left) (follows mode) binder) (world (now (out .entry)) (good place damaged written)) ⌝ }
+fn arg(s: &[u8], out: &mut [u8], st: &mut [usize; 4], left: usize, binder: u64, mode: u8)
+    ensures { λ _. ⌜ at (now (out .exit)) (now (st .exit)) ≡ lay mode (g.arg (now (s .entry)) (g.level (now (s .entry)) left) (follows mode) binder) (at (now (out .entry)) (now (st .entry))) ⌝ }
 {
-    let Byte::Read(b, behind) = next(s, place) else {
-        return ty(s, out, place, damaged, written, left, binder, mode);
-    };
+    if st[1] != 0 {
+        text::word(out, st, words::ASK, mode);
+        return;
+    }
+    let t = look(s, st[0]);
+    let b = t.byte;
     match b {
-        b'L' => leaf::lifetime(s, out, behind, damaged, written, binder, mode),
-        b'K' => con(s, out, behind, damaged, written, false, left, binder, mode),
-        _ => ty(s, out, place, damaged, written, left, binder, mode),
+        b'L' => {
+            go(st, t.behind);
+            leaf::lifetime(s, out, st, binder, mode);
+        }
+        b'K' => {
+            go(st, t.behind);
+            con(s, out, st, false, left, binder, mode);
+        }
+        _ => ty(s, out, st, left, binder, mode),
     }
 }
 
@@ -322,621 +228,453 @@ fn arg(
 fn back(
     s: &[u8],
     out: &mut [u8],
-    place: usize,
-    damaged: bool,
-    written: usize,
+    st: &mut [usize; 4],
     kind: Kind,
     left: usize,
     binder: u64,
     mode: u8,
-) -> State
-    ensures { λ r. ⌜ world (now (out .exit)) r ≡ lay mode (g.back (now (s .entry)) (g.level (now (s .entry)) left) kind (follows mode) binder) (world (now (out .entry)) (good place damaged written)) ⌝ }
+)
+    requires { ⌜ Going (stateOf (now st)) ⌝ }
+    ensures { λ _. ⌜ at (now (out .exit)) (now (st .exit)) ≡ lay mode (g.back (now (s .entry)) (g.level (now (s .entry)) left) kind (follows mode) binder) (at (now (out .entry)) (now (st .entry))) ⌝ }
 {
-    let Back::Target(v, behind) = backref(s, place) else {
-        return text::invalid(out, plain(place, damaged, written), mode);
+    let Back::Target(v, behind) = backref(s, st[0]) else {
+        text::invalid(out, st, mode);
+        return;
     };
-    aim(
-        s,
-        out,
-        behind,
-        damaged,
-        written,
-        v,
-        kind,
-        left,
-        binder,
-        mode,
-    )
+    go(st, behind);
+    aim(s, out, st, v, kind, left, binder, mode);
 }
 
 // What it leads to: counts one more level, and an error there is damage. Nothing is followed where nothing is printed.
 fn aim(
     s: &[u8],
     out: &mut [u8],
-    place: usize,
-    damaged: bool,
-    written: usize,
+    st: &mut [usize; 4],
     v: usize,
     kind: Kind,
     left: usize,
     binder: u64,
     mode: u8,
-) -> State
-    ensures { λ r. ⌜ world (now (out .exit)) r ≡ lay mode ((g.level (now (s .entry)) left) .aim kind (follows mode) binder v) (world (now (out .entry)) (good place damaged written)) ⌝ }
+)
+    requires { ⌜ Going (stateOf (now st)) ⌝ }
+    ensures { λ _. ⌜ at (now (out .exit)) (now (st .exit)) ≡ lay mode ((g.level (now (s .entry)) left) .aim kind (follows mode) binder v) (at (now (out .entry)) (now (st .entry))) ⌝ }
 {
     if left == 0 {
-        return text::too_deep(out, plain(place, damaged, written), mode);
+        text::too_deep(out, st, mode);
+        return;
     }
     if mode == 0 {
-        return plain(place, damaged, written);
+        return;
     }
-    let there = on(s, out, v, damaged, written, kind, left - 1, binder, mode);
-    back_to(there, place)
+    let place = st[0];
+    go(st, v);
+    see(s, out, st, kind, left - 1, binder, mode);
+    back_to(st, place);
+}
+
+fn see(
+    s: &[u8],
+    out: &mut [u8],
+    st: &mut [usize; 4],
+    kind: Kind,
+    left: usize,
+    binder: u64,
+    mode: u8,
+)
+    ensures { λ _. ⌜ at (now (out .exit)) (now (st .exit)) ≡ lay mode (g.says (now (s .entry)) (g.level (now (s .entry)) left) kind (follows mode) binder) (at (now (out .entry)) (now (st .entry))) ⌝ }
+{
+    match kind {
+        Kind::Path => path(s, out, st, false, left, binder, mode),
+        Kind::Value => path(s, out, st, true, left, binder, mode),
+        Kind::Ty => ty(s, out, st, left, binder, mode),
+        Kind::Const => con(s, out, st, false, left, binder, mode),
+        Kind::Expr => con(s, out, st, true, left, binder, mode),
+    }
 }
 
 // A type, with an optional `w` before it.
-fn ty(
-    s: &[u8],
-    out: &mut [u8],
-    place: usize,
-    damaged: bool,
-    written: usize,
-    left: usize,
-    binder: u64,
-    mode: u8,
-) -> State
-    ensures { λ r. ⌜ world (now (out .exit)) r ≡ lay mode (g.type (now (s .entry)) (g.level (now (s .entry)) left) (follows mode) binder) (world (now (out .entry)) (good place damaged written)) ⌝ }
+fn ty(s: &[u8], out: &mut [u8], st: &mut [usize; 4], left: usize, binder: u64, mode: u8)
+    ensures { λ _. ⌜ at (now (out .exit)) (now (st .exit)) ≡ lay mode (g.type (now (s .entry)) (g.level (now (s .entry)) left) (follows mode) binder) (at (now (out .entry)) (now (st .entry))) ⌝ }
 {
-    let behind = eat(s, place, b'w');
-    if behind == place {
-        return bare(s, out, place, damaged, written, left, binder, mode);
+    if st[1] != 0 {
+        text::word(out, st, words::ASK, mode);
+        return;
     }
-    let splat = text::word(out, plain(behind, damaged, written), words::SPLAT, mode);
-    part(s, out, splat, Kind::Bare, left, binder, mode)
+    let place = st[0];
+    let behind = eat(s, place, b'w');
+    go(st, behind);
+    text::word_if(out, st, behind != place, words::SPLAT, mode);
+    bare(s, out, st, left, binder, mode);
 }
 
 // A type: a basic one counts no level, any other one.
-fn bare(
-    s: &[u8],
-    out: &mut [u8],
-    place: usize,
-    damaged: bool,
-    written: usize,
-    left: usize,
-    binder: u64,
-    mode: u8,
-) -> State
-    ensures { λ r. ⌜ world (now (out .exit)) r ≡ lay mode ((g.level (now (s .entry)) left) .bare (follows mode) binder) (world (now (out .entry)) (good place damaged written)) ⌝ }
+fn bare(s: &[u8], out: &mut [u8], st: &mut [usize; 4], left: usize, binder: u64, mode: u8)
+    ensures { λ _. ⌜ at (now (out .exit)) (now (st .exit)) ≡ lay mode ((g.level (now (s .entry)) left) .bare (follows mode) binder) (at (now (out .entry)) (now (st .entry))) ⌝ }
 {
-    let Byte::Read(b, behind) = next(s, place) else {
-        return text::invalid(out, plain(place, damaged, written), mode);
-    };
-    let basic = pieces::basic::is_basic(b);
+    if st[1] != 0 {
+        text::word(out, st, words::ASK, mode);
+        return;
+    }
+    let t = look(s, st[0]);
+    let letter = t.byte;
+    let basic = pieces::basic::is_basic(letter);
     if basic {
-        return text::basic(out, plain(behind, damaged, written), b, mode);
+        go(st, t.behind);
+        text::basic(out, st, letter, mode);
+        return;
     }
     if left == 0 {
-        return text::too_deep(out, plain(place, damaged, written), mode);
+        leaf::no_level(s, out, st, mode);
+        return;
     }
+    tys(s, out, st, left - 1, binder, mode);
+}
+
+fn tys(s: &[u8], out: &mut [u8], st: &mut [usize; 4], left: usize, binder: u64, mode: u8)
+    requires { ⌜ Going (stateOf (now st)) ⌝ }
+    ensures { λ _. ⌜ at (now (out .exit)) (now (st .exit)) ≡ lay mode (g.typed (now (s .entry)) (g.level (now (s .entry)) left) (follows mode) binder) (at (now (out .entry)) (now (st .entry))) ⌝ }
+{
+    let t = look(s, st[0]);
+    let b = t.byte;
     match b {
-        b'R' => refer(
-            s,
-            out,
-            behind,
-            damaged,
-            written,
-            false,
-            left - 1,
-            binder,
-            mode,
-        ),
-        b'Q' => refer(
-            s,
-            out,
-            behind,
-            damaged,
-            written,
-            true,
-            left - 1,
-            binder,
-            mode,
-        ),
-        b'P' => ptr(
-            s,
-            out,
-            behind,
-            damaged,
-            written,
-            words::PTR_CONST,
-            left - 1,
-            binder,
-            mode,
-        ),
-        b'O' => ptr(
-            s,
-            out,
-            behind,
-            damaged,
-            written,
-            words::PTR_MUT,
-            left - 1,
-            binder,
-            mode,
-        ),
-        b'A' => arr(
-            s,
-            out,
-            behind,
-            damaged,
-            written,
-            true,
-            left - 1,
-            binder,
-            mode,
-        ),
-        b'S' => arr(
-            s,
-            out,
-            behind,
-            damaged,
-            written,
-            false,
-            left - 1,
-            binder,
-            mode,
-        ),
-        b'T' => tup(
-            s,
-            out,
-            plain(behind, damaged, written),
-            Kind::Ty,
-            left - 1,
-            binder,
-            mode,
-        ),
-        b'F' => func(s, out, behind, damaged, written, left - 1, binder, mode),
-        b'D' => obj(s, out, behind, damaged, written, left - 1, binder, mode),
-        b'B' => back(
-            s,
-            out,
-            behind,
-            damaged,
-            written,
-            Kind::Ty,
-            left - 1,
-            binder,
-            mode,
-        ),
-        b'W' => sub(s, out, behind, damaged, written, left - 1, binder, mode),
-        _ => path(
-            s,
-            out,
-            place,
-            damaged,
-            written,
-            false,
-            left - 1,
-            binder,
-            mode,
-        ),
+        b'R' => {
+            go(st, t.behind);
+            refer(s, out, st, false, left, binder, mode);
+        }
+        b'Q' => {
+            go(st, t.behind);
+            refer(s, out, st, true, left, binder, mode);
+        }
+        b'P' => {
+            go(st, t.behind);
+            ptr(s, out, st, words::PTR_CONST, left, binder, mode);
+        }
+        b'O' => {
+            go(st, t.behind);
+            ptr(s, out, st, words::PTR_MUT, left, binder, mode);
+        }
+        b'A' => {
+            go(st, t.behind);
+            arr(s, out, st, true, left, binder, mode);
+        }
+        b'S' => {
+            go(st, t.behind);
+            arr(s, out, st, false, left, binder, mode);
+        }
+        b'T' => {
+            go(st, t.behind);
+            tup(s, out, st, Item::Ty, left, binder, mode);
+        }
+        b'F' => {
+            go(st, t.behind);
+            func(s, out, st, left, binder, mode);
+        }
+        b'D' => {
+            go(st, t.behind);
+            obj(s, out, st, left, binder, mode);
+        }
+        b'B' => {
+            go(st, t.behind);
+            back(s, out, st, Kind::Ty, left, binder, mode);
+        }
+        b'W' => {
+            go(st, t.behind);
+            sub(s, out, st, left, binder, mode);
+        }
+        _ => nam(s, out, st, left, binder, mode),
     }
+}
+
+// A type by its path, if a byte is there.
+fn nam(s: &[u8], out: &mut [u8], st: &mut [usize; 4], left: usize, binder: u64, mode: u8)
+    requires { ⌜ Going (stateOf (now st)) ⌝ }
+    ensures { λ _. ⌜ at (now (out .exit)) (now (st .exit)) ≡ lay mode (g.named (now (s .entry)) (g.level (now (s .entry)) left) (follows mode) binder) (at (now (out .entry)) (now (st .entry))) ⌝ }
+{
+    if st[0] < s.len() {
+        path(s, out, st, false, left, binder, mode);
+        return;
+    }
+    text::invalid(out, st, mode);
 }
 
 // A reference: `&'a mut type`.
 fn refer(
     s: &[u8],
     out: &mut [u8],
-    place: usize,
-    damaged: bool,
-    written: usize,
+    st: &mut [usize; 4],
     is_mut: bool,
     left: usize,
     binder: u64,
     mode: u8,
-) -> State
-    ensures { λ r. ⌜ world (now (out .exit)) r ≡ lay mode (g.refer (now (s .entry)) (g.level (now (s .entry)) left) «is_mut» (follows mode) binder) (world (now (out .entry)) (good place damaged written)) ⌝ }
+)
+    ensures { λ _. ⌜ at (now (out .exit)) (now (st .exit)) ≡ lay mode (g.refer (now (s .entry)) (g.level (now (s .entry)) left) «is_mut» (follows mode) binder) (at (now (out .entry)) (now (st .entry))) ⌝ }
 {
-    let sign = text::word(out, plain(place, damaged, written), words::REF, mode);
-    refd(s, out, sign, is_mut, left, binder, mode)
-}
-
-fn refd(
-    s: &[u8],
-    out: &mut [u8],
-    st: State,
-    is_mut: bool,
-    left: usize,
-    binder: u64,
-    mode: u8,
-) -> State
-    ensures { λ r. ⌜ world (now (out .exit)) r ≡ lay mode (g.pointee (now (s .entry)) (g.level (now (s .entry)) left) «is_mut» (follows mode) binder) (world (now (out .entry)) st) ⌝ }
-{
-    if st.full {
-        return st;
+    let more = leaf::reference(s, out, st, is_mut, binder, mode);
+    if more {
+        ty(s, out, st, left, binder, mode);
     }
-    if st.error != 0 {
-        return text::word(out, st, words::ASK, mode);
-    }
-    let Num::Value(lt, behind) = crate::read::lifetime(s, st.place) else {
-        return text::invalid(out, st, mode);
-    };
-    let life = leaf::ref_life(out, moved(st, behind), lt, binder, mode);
-    mty(s, out, life, is_mut, left, binder, mode)
-}
-
-fn mty(
-    s: &[u8],
-    out: &mut [u8],
-    st: State,
-    is_mut: bool,
-    left: usize,
-    binder: u64,
-    mode: u8,
-) -> State
-    ensures { λ r. ⌜ world (now (out .exit)) r ≡ lay mode (g.mutType (now (s .entry)) (g.level (now (s .entry)) left) «is_mut» (follows mode) binder) (world (now (out .entry)) st) ⌝ }
-{
-    let muted = text::word_if(out, st, is_mut, words::MUT, mode);
-    part(s, out, muted, Kind::Ty, left, binder, mode)
 }
 
 // A pointer, behind its word.
-fn ptr(
-    s: &[u8],
-    out: &mut [u8],
-    place: usize,
-    damaged: bool,
-    written: usize,
-    k: usize,
-    left: usize,
-    binder: u64,
-    mode: u8,
-) -> State
-    ensures { λ r. ⌜ world (now (out .exit)) r ≡ lay mode (g.pointer (now (s .entry)) (g.level (now (s .entry)) left) k (follows mode) binder) (world (now (out .entry)) (good place damaged written)) ⌝ }
+fn ptr(s: &[u8], out: &mut [u8], st: &mut [usize; 4], k: usize, left: usize, binder: u64, mode: u8)
+    ensures { λ _. ⌜ at (now (out .exit)) (now (st .exit)) ≡ lay mode (g.pointer (now (s .entry)) (g.level (now (s .entry)) left) k (follows mode) binder) (at (now (out .entry)) (now (st .entry))) ⌝ }
 {
-    let sign = text::word(out, plain(place, damaged, written), k, mode);
-    part(s, out, sign, Kind::Ty, left, binder, mode)
+    text::word(out, st, k, mode);
+    ty(s, out, st, left, binder, mode);
 }
 
 // `[type; length]` or `[type]`
 fn arr(
     s: &[u8],
     out: &mut [u8],
-    place: usize,
-    damaged: bool,
-    written: usize,
+    st: &mut [usize; 4],
     sized: bool,
     left: usize,
     binder: u64,
     mode: u8,
-) -> State
-    ensures { λ r. ⌜ world (now (out .exit)) r ≡ lay mode (g.array (now (s .entry)) (g.level (now (s .entry)) left) sized (follows mode) binder) (world (now (out .entry)) (good place damaged written)) ⌝ }
+)
+    ensures { λ _. ⌜ at (now (out .exit)) (now (st .exit)) ≡ lay mode (g.array (now (s .entry)) (g.level (now (s .entry)) left) sized (follows mode) binder) (at (now (out .entry)) (now (st .entry))) ⌝ }
 {
-    let opened = text::word(out, plain(place, damaged, written), words::BRACKET, mode);
-    let shown = part(s, out, opened, Kind::Ty, left, binder, mode);
-    let length = size(s, out, shown, sized, left, binder, mode);
-    text::word(out, length, words::BRACKET_END, mode)
+    text::word(out, st, words::BRACKET, mode);
+    ty(s, out, st, left, binder, mode);
+    size(s, out, st, sized, left, binder, mode);
+    text::word(out, st, words::BRACKET_END, mode);
 }
 
 fn size(
     s: &[u8],
     out: &mut [u8],
-    st: State,
+    st: &mut [usize; 4],
     sized: bool,
     left: usize,
     binder: u64,
     mode: u8,
-) -> State
-    ensures { λ r. ⌜ world (now (out .exit)) r ≡ lay mode (g.size (now (s .entry)) (g.level (now (s .entry)) left) sized (follows mode) binder) (world (now (out .entry)) st) ⌝ }
+)
+    ensures { λ _. ⌜ at (now (out .exit)) (now (st .exit)) ≡ lay mode (g.size (now (s .entry)) (g.level (now (s .entry)) left) sized (follows mode) binder) (at (now (out .entry)) (now (st .entry))) ⌝ }
 {
     if sized {
-        let semicolon = text::word(out, st, words::SEMICOLON, mode);
-        return part(s, out, semicolon, Kind::Expr, left, binder, mode);
+        text::word(out, st, words::SEMICOLON, mode);
+        con(s, out, st, true, left, binder, mode);
     }
-    st
 }
 
 // A tuple of types or of constants: one alone keeps its comma.
-fn tup(s: &[u8], out: &mut [u8], st: State, kind: Kind, left: usize, binder: u64, mode: u8) -> State
-    ensures { λ r. ⌜ world (now (out .exit)) r ≡ lay mode (g.tuple (now (s .entry)) (g.level (now (s .entry)) left) kind (follows mode) binder) (world (now (out .entry)) st) ⌝ }
+fn tup(
+    s: &[u8],
+    out: &mut [u8],
+    st: &mut [usize; 4],
+    item: Item,
+    left: usize,
+    binder: u64,
+    mode: u8,
+)
+    ensures { λ _. ⌜ at (now (out .exit)) (now (st .exit)) ≡ lay mode (g.tuple (now (s .entry)) (g.level (now (s .entry)) left) item (follows mode) binder) (at (now (out .entry)) (now (st .entry))) ⌝ }
 {
-    let opened = text::word(out, st, words::PAREN, mode);
-    let listed = list(s, out, opened, kind, left, binder, mode);
-    let last = listed.st;
-    let comma = text::comma(out, last, listed.count, mode);
-    text::word(out, comma, words::PAREN_END, mode)
+    text::word(out, st, words::PAREN, mode);
+    let count = list(s, out, st, item, left, binder, mode);
+    text::comma(out, st, count, mode);
+    text::word(out, st, words::PAREN_END, mode);
 }
 
 // A function pointer: its binder counts for what follows.
-fn func(
-    s: &[u8],
-    out: &mut [u8],
-    place: usize,
-    damaged: bool,
-    written: usize,
-    left: usize,
-    binder: u64,
-    mode: u8,
-) -> State
-    ensures { λ r. ⌜ world (now (out .exit)) r ≡ lay mode (g.function (now (s .entry)) (g.level (now (s .entry)) left) (follows mode) binder) (world (now (out .entry)) (good place damaged written)) ⌝ }
+fn func(s: &[u8], out: &mut [u8], st: &mut [usize; 4], left: usize, binder: u64, mode: u8)
+    requires { ⌜ Going (stateOf (now st)) ⌝ }
+    ensures { λ _. ⌜ at (now (out .exit)) (now (st .exit)) ≡ lay mode (g.function (now (s .entry)) (g.level (now (s .entry)) left) (follows mode) binder) (at (now (out .entry)) (now (st .entry))) ⌝ }
 {
-    let Num::Value(n, behind) = opt_integer_62(s, place, b'G') else {
-        return text::invalid(out, plain(place, damaged, written), mode);
+    let Num::Value(n, behind) = opt_integer_62(s, st[0], b'G') else {
+        text::invalid(out, st, mode);
+        return;
     };
-    let bound = leaf::binder(out, plain(behind, damaged, written), n, binder, mode);
-    sig(s, out, bound, left, leaf::held(binder, n), mode)
+    go(st, behind);
+    leaf::binder(out, st, n, binder, mode);
+    let more = leaf::signature(s, out, st, mode);
+    if more {
+        args(s, out, st, left, leaf::held(binder, n), mode);
+    }
 }
 
-fn sig(s: &[u8], out: &mut [u8], st: State, left: usize, binder: u64, mode: u8) -> State
-    ensures { λ r. ⌜ world (now (out .exit)) r ≡ lay mode (g.signature (now (s .entry)) (g.level (now (s .entry)) left) (follows mode) binder) (world (now (out .entry)) st) ⌝ }
+fn args(s: &[u8], out: &mut [u8], st: &mut [usize; 4], left: usize, binder: u64, mode: u8)
+    ensures { λ _. ⌜ at (now (out .exit)) (now (st .exit)) ≡ lay mode (g.parameters (now (s .entry)) (g.level (now (s .entry)) left) (follows mode) binder) (at (now (out .entry)) (now (st .entry))) ⌝ }
 {
-    if st.full {
-        return st;
-    }
-    if st.error != 0 {
-        return text::word(out, st, words::ASK, mode);
-    }
-    let Head::Of(is_unsafe, which, a, b, behind) = crate::read::function(s, st.place) else {
-        return text::invalid(out, st, mode);
-    };
-    let opened = leaf::head(s, out, moved(st, behind), is_unsafe, which, a, b, mode);
-    args(s, out, opened, left, binder, mode)
-}
-
-fn args(s: &[u8], out: &mut [u8], st: State, left: usize, binder: u64, mode: u8) -> State
-    ensures { λ r. ⌜ world (now (out .exit)) r ≡ lay mode (g.parameters (now (s .entry)) (g.level (now (s .entry)) left) (follows mode) binder) (world (now (out .entry)) st) ⌝ }
-{
-    let listed = list(s, out, st, Kind::Ty, left, binder, mode);
-    let last = listed.st;
-    let closed = text::word(out, last, words::PAREN_END, mode);
-    ret(s, out, closed, left, binder, mode)
+    list(s, out, st, Item::Ty, left, binder, mode);
+    text::word(out, st, words::PAREN_END, mode);
+    ret(s, out, st, left, binder, mode);
 }
 
 // The result of a function pointer: nothing for `u`.
-fn ret(s: &[u8], out: &mut [u8], st: State, left: usize, binder: u64, mode: u8) -> State
-    ensures { λ r. ⌜ world (now (out .exit)) r ≡ lay mode (g.result (now (s .entry)) (g.level (now (s .entry)) left) (follows mode) binder) (world (now (out .entry)) st) ⌝ }
+fn ret(s: &[u8], out: &mut [u8], st: &mut [usize; 4], left: usize, binder: u64, mode: u8)
+    ensures { λ _. ⌜ at (now (out .exit)) (now (st .exit)) ≡ lay mode (g.result (now (s .entry)) (g.level (now (s .entry)) left) (follows mode) binder) (at (now (out .entry)) (now (st .entry))) ⌝ }
 {
-    if st.full {
-        return st;
+    if st[1] != 0 {
+        arw(s, out, st, left, binder, mode);
+        return;
     }
-    if st.error != 0 {
-        return arw(s, out, st, left, binder, mode);
-    }
-    let place = st.place;
+    let place = st[0];
     let behind = eat(s, place, b'u');
     if behind != place {
-        return moved(st, behind);
+        go(st, behind);
+        return;
     }
-    arw(s, out, st, left, binder, mode)
+    arw(s, out, st, left, binder, mode);
 }
 
-fn arw(s: &[u8], out: &mut [u8], st: State, left: usize, binder: u64, mode: u8) -> State
-    ensures { λ r. ⌜ world (now (out .exit)) r ≡ lay mode (g.arrow (now (s .entry)) (g.level (now (s .entry)) left) (follows mode) binder) (world (now (out .entry)) st) ⌝ }
+fn arw(s: &[u8], out: &mut [u8], st: &mut [usize; 4], left: usize, binder: u64, mode: u8)
+    ensures { λ _. ⌜ at (now (out .exit)) (now (st .exit)) ≡ lay mode (g.arrow (now (s .entry)) (g.level (now (s .entry)) left) (follows mode) binder) (at (now (out .entry)) (now (st .entry))) ⌝ }
 {
-    let arrow = text::word(out, st, words::ARROW, mode);
-    part(s, out, arrow, Kind::Ty, left, binder, mode)
+    text::word(out, st, words::ARROW, mode);
+    ty(s, out, st, left, binder, mode);
 }
 
 // A trait object.
-fn obj(
-    s: &[u8],
-    out: &mut [u8],
-    place: usize,
-    damaged: bool,
-    written: usize,
-    left: usize,
-    binder: u64,
-    mode: u8,
-) -> State
-    ensures { λ r. ⌜ world (now (out .exit)) r ≡ lay mode (g.object (now (s .entry)) (g.level (now (s .entry)) left) (follows mode) binder) (world (now (out .entry)) (good place damaged written)) ⌝ }
+fn obj(s: &[u8], out: &mut [u8], st: &mut [usize; 4], left: usize, binder: u64, mode: u8)
+    ensures { λ _. ⌜ at (now (out .exit)) (now (st .exit)) ≡ lay mode (g.object (now (s .entry)) (g.level (now (s .entry)) left) (follows mode) binder) (at (now (out .entry)) (now (st .entry))) ⌝ }
 {
-    let word = text::word(out, plain(place, damaged, written), words::DYN, mode);
-    let shown = dyns(s, out, word, left, binder, mode);
-    leaf::bound(s, out, shown, binder, mode)
+    text::word(out, st, words::DYN, mode);
+    dyns(s, out, st, left, binder, mode);
+    leaf::bound(s, out, st, binder, mode);
 }
 
 // Its traits: their binder does not count behind them.
-fn dyns(s: &[u8], out: &mut [u8], st: State, left: usize, binder: u64, mode: u8) -> State
-    ensures { λ r. ⌜ world (now (out .exit)) r ≡ lay mode (g.traits (now (s .entry)) (g.level (now (s .entry)) left) (follows mode) binder) (world (now (out .entry)) st) ⌝ }
+fn dyns(s: &[u8], out: &mut [u8], st: &mut [usize; 4], left: usize, binder: u64, mode: u8)
+    ensures { λ _. ⌜ at (now (out .exit)) (now (st .exit)) ≡ lay mode (g.traits (now (s .entry)) (g.level (now (s .entry)) left) (follows mode) binder) (at (now (out .entry)) (now (st .entry))) ⌝ }
 {
-    if st.full {
-        return st;
+    if st[1] != 0 {
+        text::word(out, st, words::ASK, mode);
+        return;
     }
-    if st.error != 0 {
-        return text::word(out, st, words::ASK, mode);
-    }
-    let Num::Value(n, behind) = opt_integer_62(s, st.place, b'G') else {
-        return text::invalid(out, st, mode);
+    let Num::Value(n, behind) = opt_integer_62(s, st[0], b'G') else {
+        text::invalid(out, st, mode);
+        return;
     };
-    let bound = leaf::binder(out, moved(st, behind), n, binder, mode);
-    let listed = list(
-        s,
-        out,
-        bound,
-        Kind::Trait,
-        left,
-        leaf::held(binder, n),
-        mode,
-    );
-    listed.st
+    go(st, behind);
+    leaf::binder(out, st, n, binder, mode);
+    list(s, out, st, Item::Trait, left, leaf::held(binder, n), mode);
 }
 
 // `type is pattern`
-fn sub(
-    s: &[u8],
-    out: &mut [u8],
-    place: usize,
-    damaged: bool,
-    written: usize,
-    left: usize,
-    binder: u64,
-    mode: u8,
-) -> State
-    ensures { λ r. ⌜ world (now (out .exit)) r ≡ lay mode (g.patterned (now (s .entry)) (g.level (now (s .entry)) left) (follows mode) binder) (world (now (out .entry)) (good place damaged written)) ⌝ }
+fn sub(s: &[u8], out: &mut [u8], st: &mut [usize; 4], left: usize, binder: u64, mode: u8)
+    ensures { λ _. ⌜ at (now (out .exit)) (now (st .exit)) ≡ lay mode (g.patterned (now (s .entry)) (g.level (now (s .entry)) left) (follows mode) binder) (at (now (out .entry)) (now (st .entry))) ⌝ }
 {
-    let shown = ty(s, out, place, damaged, written, left, binder, mode);
-    let word = text::word(out, shown, words::IS, mode);
-    part(s, out, word, Kind::Pat, left, binder, mode)
+    ty(s, out, st, left, binder, mode);
+    text::word(out, st, words::IS, mode);
+    pat(s, out, st, left, binder, mode);
 }
 
-// A path whose generics may be left open for what is bound behind it.
-fn opath(
-    s: &[u8],
-    out: &mut [u8],
-    place: usize,
-    damaged: bool,
-    written: usize,
-    left: usize,
-    binder: u64,
-    mode: u8,
-) -> Told
-    ensures { λ r. ⌜ told (now (out .exit)) r ≡ lays false mode (g.openPath (now (s .entry)) (g.level (now (s .entry)) left) (follows mode) binder) (world (now (out .entry)) (good place damaged written)) ⌝ }
+// A path whose generics may be left open for what is bound behind it: whether they are.
+fn opn(s: &[u8], out: &mut [u8], st: &mut [usize; 4], left: usize, binder: u64, mode: u8) -> bool
+    requires { ⌜ Going (stateOf (now st)) ⌝ }
+    ensures { λ r. ⌜ given r (now (out .exit)) (now (st .exit)) ≡ lays false mode (g.openPath (now (s .entry)) (g.level (now (s .entry)) left) (follows mode) binder) (at (now (out .entry)) (now (st .entry))) ⌝ }
 {
-    let Byte::Read(b, behind) = next(s, place) else {
-        return shut(s, out, place, damaged, written, left, binder, mode);
-    };
+    let t = look(s, st[0]);
+    let b = t.byte;
     match b {
-        b'B' => oback(s, out, behind, damaged, written, left, binder, mode),
-        b'I' => ogen(s, out, behind, damaged, written, left, binder, mode),
-        _ => shut(s, out, place, damaged, written, left, binder, mode),
+        b'B' => {
+            go(st, t.behind);
+            obk(s, out, st, left, binder, mode)
+        }
+        b'I' => {
+            go(st, t.behind);
+            ogen(s, out, st, left, binder, mode)
+        }
+        _ => {
+            path(s, out, st, false, left, binder, mode);
+            false
+        }
     }
 }
 
-fn shut(
-    s: &[u8],
-    out: &mut [u8],
-    place: usize,
-    damaged: bool,
-    written: usize,
-    left: usize,
-    binder: u64,
-    mode: u8,
-) -> Told
-    ensures { λ r. ⌜ told (now (out .exit)) r ≡ lays false mode (g.shutPath (now (s .entry)) (g.level (now (s .entry)) left) (follows mode) binder) (world (now (out .entry)) (good place damaged written)) ⌝ }
+fn ogen(s: &[u8], out: &mut [u8], st: &mut [usize; 4], left: usize, binder: u64, mode: u8) -> bool
+    ensures { λ r. ⌜ given r (now (out .exit)) (now (st .exit)) ≡ lays false mode (g.openGeneric (now (s .entry)) (g.level (now (s .entry)) left) (follows mode) binder) (at (now (out .entry)) (now (st .entry))) ⌝ }
 {
-    let st = path(s, out, place, damaged, written, false, left, binder, mode);
-    Told { st, is: false }
+    path(s, out, st, false, left, binder, mode);
+    text::word(out, st, words::LESS, mode);
+    list(s, out, st, Item::Arg, left, binder, mode);
+    st[1] != 3
 }
 
-fn ogen(
-    s: &[u8],
-    out: &mut [u8],
-    place: usize,
-    damaged: bool,
-    written: usize,
-    left: usize,
-    binder: u64,
-    mode: u8,
-) -> Told
-    ensures { λ r. ⌜ told (now (out .exit)) r ≡ lays false mode (g.openGeneric (now (s .entry)) (g.level (now (s .entry)) left) (follows mode) binder) (world (now (out .entry)) (good place damaged written)) ⌝ }
+fn obk(s: &[u8], out: &mut [u8], st: &mut [usize; 4], left: usize, binder: u64, mode: u8) -> bool
+    requires { ⌜ Going (stateOf (now st)) ⌝ }
+    ensures { λ r. ⌜ given r (now (out .exit)) (now (st .exit)) ≡ lays false mode (g.openBack (now (s .entry)) (g.level (now (s .entry)) left) (follows mode) binder) (at (now (out .entry)) (now (st .entry))) ⌝ }
 {
-    let inner = path(s, out, place, damaged, written, false, left, binder, mode);
-    let less = text::word(out, inner, words::LESS, mode);
-    let listed = list(s, out, less, Kind::Arg, left, binder, mode);
-    let st = listed.st;
-    Told { st, is: !st.full }
-}
-
-fn oback(
-    s: &[u8],
-    out: &mut [u8],
-    place: usize,
-    damaged: bool,
-    written: usize,
-    left: usize,
-    binder: u64,
-    mode: u8,
-) -> Told
-    ensures { λ r. ⌜ told (now (out .exit)) r ≡ lays false mode (g.openBack (now (s .entry)) (g.level (now (s .entry)) left) (follows mode) binder) (world (now (out .entry)) (good place damaged written)) ⌝ }
-{
-    let Back::Target(v, behind) = backref(s, place) else {
-        let st = text::invalid(out, plain(place, damaged, written), mode);
-        return Told { st, is: false };
+    let Back::Target(v, behind) = backref(s, st[0]) else {
+        text::invalid(out, st, mode);
+        return false;
     };
-    oaim(s, out, behind, damaged, written, v, left, binder, mode)
+    go(st, behind);
+    oaim(s, out, st, v, left, binder, mode)
 }
 
 fn oaim(
     s: &[u8],
     out: &mut [u8],
-    place: usize,
-    damaged: bool,
-    written: usize,
+    st: &mut [usize; 4],
     v: usize,
     left: usize,
     binder: u64,
     mode: u8,
-) -> Told
-    ensures { λ r. ⌜ told (now (out .exit)) r ≡ lays false mode ((g.level (now (s .entry)) left) .openAt (follows mode) binder v) (world (now (out .entry)) (good place damaged written)) ⌝ }
+) -> bool
+    requires { ⌜ Going (stateOf (now st)) ⌝ }
+    ensures { λ r. ⌜ given r (now (out .exit)) (now (st .exit)) ≡ lays false mode ((g.level (now (s .entry)) left) .openAt (follows mode) binder v) (at (now (out .entry)) (now (st .entry))) ⌝ }
 {
     if left == 0 {
-        let st = text::too_deep(out, plain(place, damaged, written), mode);
-        return Told { st, is: false };
+        text::too_deep(out, st, mode);
+        return false;
     }
     if mode == 0 {
-        let st = plain(place, damaged, written);
-        return Told { st, is: false };
+        return false;
     }
-    let there = opath(s, out, v, damaged, written, left - 1, binder, mode);
-    let st = there.st;
-    Told {
-        st: back_to(st, place),
-        is: there.is,
-    }
+    let place = st[0];
+    go(st, v);
+    let is_open = opn(s, out, st, left - 1, binder, mode);
+    back_to(st, place);
+    is_open
 }
 
 // A trait of a trait object, with what is bound to its associated types.
-fn bind(
-    s: &[u8],
-    out: &mut [u8],
-    place: usize,
-    damaged: bool,
-    written: usize,
-    left: usize,
-    binder: u64,
-    mode: u8,
-) -> State
-    ensures { λ r. ⌜ world (now (out .exit)) r ≡ lay mode (g.dynTrait (now (s .entry)) (g.level (now (s .entry)) left) (follows mode) binder) (world (now (out .entry)) (good place damaged written)) ⌝ }
+fn bind(s: &[u8], out: &mut [u8], st: &mut [usize; 4], left: usize, binder: u64, mode: u8)
+    ensures { λ _. ⌜ at (now (out .exit)) (now (st .exit)) ≡ lay mode (g.dynTrait (now (s .entry)) (g.level (now (s .entry)) left) (follows mode) binder) (at (now (out .entry)) (now (st .entry))) ⌝ }
 {
-    let first = opath(s, out, place, damaged, written, left, binder, mode);
-    let st = first.st;
-    binds(s, out, st, first.is, left, binder, mode)
+    if st[1] != 0 {
+        text::word(out, st, words::ASK, mode);
+        return;
+    }
+    let is_open = opn(s, out, st, left, binder, mode);
+    binds(s, out, st, is_open, left, binder, mode);
 }
 
 // The bindings, and the end of the generics where they are open. There are no more than the symbol has bytes.
 fn binds(
     s: &[u8],
     out: &mut [u8],
-    st: State,
+    st: &mut [usize; 4],
     is_open: bool,
     left: usize,
     binder: u64,
     mode: u8,
-) -> State
-    ensures { λ r. ⌜ world (now (out .exit)) r ≡ lay mode (g.bindings (now (s .entry)) (g.level (now (s .entry)) left) (length (now (s .entry))) «is_open» (follows mode) binder) (world (now (out .entry)) st) ⌝ }
+)
+    ensures { λ _. ⌜ at (now (out .exit)) (now (st .exit)) ≡ lay mode (g.bindings (now (s .entry)) (g.level (now (s .entry)) left) (length (now (s .entry))) «is_open» (follows mode) binder) (at (now (out .entry)) (now (st .entry))) ⌝ }
 {
-    let mut now_at = st;
     let mut opened = is_open;
     let mut turns = s.len();
     loop {
-        if now_at.full {
-            return now_at;
-        }
-        if now_at.error != 0 {
-            return text::word_if(out, now_at, opened, words::MORE, mode);
+        if st[1] != 0 {
+            text::word_if(out, st, opened, words::MORE, mode);
+            return;
         }
         if turns == 0 {
-            return failed(now_at, 1);
+            fail(st, 1);
+            return;
         }
-        let at = now_at.place;
+        let at = st[0];
         let behind = eat(s, at, b'p');
         if behind == at {
-            return text::word_if(out, now_at, opened, words::MORE, mode);
+            text::word_if(out, st, opened, words::MORE, mode);
+            return;
         }
-        let one = bond(s, out, moved(now_at, behind), opened, left, binder, mode);
-        now_at = one.st;
-        let named = one.is;
+        go(st, behind);
+        let named = bond(s, out, st, opened, left, binder, mode);
         if !named {
-            return now_at;
+            return;
         }
         opened = true;
         turns -= 1;
@@ -947,158 +685,123 @@ fn binds(
 fn bond(
     s: &[u8],
     out: &mut [u8],
-    st: State,
+    st: &mut [usize; 4],
     opened: bool,
     left: usize,
     binder: u64,
     mode: u8,
-) -> Told
-    ensures { λ r. ⌜ told (now (out .exit)) r ≡ lays false mode (g.binding (now (s .entry)) (g.level (now (s .entry)) left) opened (follows mode) binder) (world (now (out .entry)) st) ⌝ }
+) -> bool
+    ensures { λ r. ⌜ given r (now (out .exit)) (now (st .exit)) ≡ lays false mode (g.binding (now (s .entry)) (g.level (now (s .entry)) left) opened (follows mode) binder) (at (now (out .entry)) (now (st .entry))) ⌝ }
 {
-    let apart = text::word(out, st, leaf::bind_word(opened), mode);
-    bound(s, out, apart, left, binder, mode)
+    text::word(out, st, leaf::bind_word(opened), mode);
+    bound(s, out, st, left, binder, mode)
 }
 
-fn bound(s: &[u8], out: &mut [u8], st: State, left: usize, binder: u64, mode: u8) -> Told
-    ensures { λ r. ⌜ told (now (out .exit)) r ≡ lays false mode (g.boundName (now (s .entry)) (g.level (now (s .entry)) left) (follows mode) binder) (world (now (out .entry)) st) ⌝ }
+fn bound(s: &[u8], out: &mut [u8], st: &mut [usize; 4], left: usize, binder: u64, mode: u8) -> bool
+    ensures { λ r. ⌜ given r (now (out .exit)) (now (st .exit)) ≡ lays false mode (g.boundName (now (s .entry)) (g.level (now (s .entry)) left) (follows mode) binder) (at (now (out .entry)) (now (st .entry))) ⌝ }
 {
-    if st.full {
-        return Told { st, is: false };
+    if st[1] != 0 {
+        text::word(out, st, words::ASK, mode);
+        return false;
     }
-    if st.error != 0 {
-        let asked = text::word(out, st, words::ASK, mode);
-        return Told {
-            st: asked,
-            is: false,
-        };
-    }
-    let Name::Parts(a, b, c, e) = parser::names::ident(s, st.place) else {
-        let marked = text::invalid(out, st, mode);
-        return Told {
-            st: marked,
-            is: false,
-        };
+    let Name::Parts(a, b, c, e) = parser::names::ident(s, st[0]) else {
+        text::invalid(out, st, mode);
+        return false;
     };
-    let named = leaf::bind_name(s, out, moved(st, e), a, b, c, e, mode);
-    let shown = onto(s, out, named, left, binder, mode);
-    Told {
-        st: shown,
-        is: !shown.full,
-    }
+    go(st, e);
+    leaf::bind_name(s, out, st, a, b, c, e, mode);
+    onto(s, out, st, left, binder, mode);
+    st[1] != 3
 }
 
 // What is bound: a constant or a type.
-fn onto(s: &[u8], out: &mut [u8], st: State, left: usize, binder: u64, mode: u8) -> State
-    ensures { λ r. ⌜ world (now (out .exit)) r ≡ lay mode (g.boundTo (now (s .entry)) (g.level (now (s .entry)) left) (follows mode) binder) (world (now (out .entry)) st) ⌝ }
+fn onto(s: &[u8], out: &mut [u8], st: &mut [usize; 4], left: usize, binder: u64, mode: u8)
+    ensures { λ _. ⌜ at (now (out .exit)) (now (st .exit)) ≡ lay mode (g.boundTo (now (s .entry)) (g.level (now (s .entry)) left) (follows mode) binder) (at (now (out .entry)) (now (st .entry))) ⌝ }
 {
-    if st.full {
-        return st;
+    if st[1] != 0 {
+        text::word(out, st, words::ASK, mode);
+        return;
     }
-    if st.error != 0 {
-        return part(s, out, st, Kind::Ty, left, binder, mode);
-    }
-    let place = st.place;
+    let place = st[0];
     let behind = eat(s, place, b'K');
     if behind != place {
-        return con(
-            s,
-            out,
-            behind,
-            st.damaged,
-            st.written,
-            false,
-            left,
-            binder,
-            mode,
-        );
+        go(st, behind);
+        con(s, out, st, false, left, binder, mode);
+        return;
     }
-    part(s, out, st, Kind::Ty, left, binder, mode)
+    ty(s, out, st, left, binder, mode);
 }
 
 // A pattern.
-fn pat(
-    s: &[u8],
-    out: &mut [u8],
-    place: usize,
-    damaged: bool,
-    written: usize,
-    left: usize,
-    binder: u64,
-    mode: u8,
-) -> State
-    ensures { λ r. ⌜ world (now (out .exit)) r ≡ lay mode (g.pat (now (s .entry)) (g.level (now (s .entry)) left) (follows mode) binder) (world (now (out .entry)) (good place damaged written)) ⌝ }
+fn pat(s: &[u8], out: &mut [u8], st: &mut [usize; 4], left: usize, binder: u64, mode: u8)
+    ensures { λ _. ⌜ at (now (out .exit)) (now (st .exit)) ≡ lay mode (g.pat (now (s .entry)) (g.level (now (s .entry)) left) (follows mode) binder) (at (now (out .entry)) (now (st .entry))) ⌝ }
 {
-    let Byte::Read(b, behind) = next(s, place) else {
-        return text::invalid(out, plain(place, damaged, written), mode);
-    };
+    if st[1] != 0 {
+        text::word(out, st, words::ASK, mode);
+        return;
+    }
+    let t = look(s, st[0]);
+    let b = t.byte;
     match b {
-        b'R' => range(s, out, behind, damaged, written, left, binder, mode),
-        b'O' => ors(s, out, behind, damaged, written, left, binder, mode),
-        b'N' => text::word(out, plain(behind, damaged, written), words::NULL, mode),
-        _ => text::invalid(out, plain(place, damaged, written), mode),
+        b'R' => {
+            go(st, t.behind);
+            rng(s, out, st, left, binder, mode);
+        }
+        b'O' => {
+            go(st, t.behind);
+            ors(s, out, st, left, binder, mode);
+        }
+        b'N' => {
+            go(st, t.behind);
+            text::word(out, st, words::NULL, mode);
+        }
+        _ => text::invalid(out, st, mode),
     }
 }
 
-fn range(
-    s: &[u8],
-    out: &mut [u8],
-    place: usize,
-    damaged: bool,
-    written: usize,
-    left: usize,
-    binder: u64,
-    mode: u8,
-) -> State
-    ensures { λ r. ⌜ world (now (out .exit)) r ≡ lay mode (g.range (now (s .entry)) (g.level (now (s .entry)) left) (follows mode) binder) (world (now (out .entry)) (good place damaged written)) ⌝ }
+fn rng(s: &[u8], out: &mut [u8], st: &mut [usize; 4], left: usize, binder: u64, mode: u8)
+    ensures { λ _. ⌜ at (now (out .exit)) (now (st .exit)) ≡ lay mode (g.range (now (s .entry)) (g.level (now (s .entry)) left) (follows mode) binder) (at (now (out .entry)) (now (st .entry))) ⌝ }
 {
-    let low = con(s, out, place, damaged, written, false, left, binder, mode);
-    let to = text::word(out, low, words::RANGE, mode);
-    part(s, out, to, Kind::Const, left, binder, mode)
+    con(s, out, st, false, left, binder, mode);
+    text::word(out, st, words::RANGE, mode);
+    con(s, out, st, false, left, binder, mode);
 }
 
 // Patterns of which one is met: counts a level.
-fn ors(
-    s: &[u8],
-    out: &mut [u8],
-    place: usize,
-    damaged: bool,
-    written: usize,
-    left: usize,
-    binder: u64,
-    mode: u8,
-) -> State
-    ensures { λ r. ⌜ world (now (out .exit)) r ≡ lay mode ((g.level (now (s .entry)) left) .ors (follows mode) binder) (world (now (out .entry)) (good place damaged written)) ⌝ }
+fn ors(s: &[u8], out: &mut [u8], st: &mut [usize; 4], left: usize, binder: u64, mode: u8)
+    requires { ⌜ Going (stateOf (now st)) ⌝ }
+    ensures { λ _. ⌜ at (now (out .exit)) (now (st .exit)) ≡ lay mode ((g.level (now (s .entry)) left) .ors (follows mode) binder) (at (now (out .entry)) (now (st .entry))) ⌝ }
 {
     if left == 0 {
-        return text::too_deep(out, plain(place, damaged, written), mode);
+        text::too_deep(out, st, mode);
+        return;
     }
-    let first = pat(s, out, place, damaged, written, left - 1, binder, mode);
-    alts(s, out, first, left - 1, binder, mode)
+    pat(s, out, st, left - 1, binder, mode);
+    alts(s, out, st, left - 1, binder, mode);
 }
 
 // The patterns behind the first: an error ends them with the marker, once more.
-fn alts(s: &[u8], out: &mut [u8], st: State, left: usize, binder: u64, mode: u8) -> State
-    ensures { λ r. ⌜ world (now (out .exit)) r ≡ lay mode (g.alternatives (now (s .entry)) (g.level (now (s .entry)) left) (length (now (s .entry))) (follows mode) binder) (world (now (out .entry)) st) ⌝ }
+fn alts(s: &[u8], out: &mut [u8], st: &mut [usize; 4], left: usize, binder: u64, mode: u8)
+    ensures { λ _. ⌜ at (now (out .exit)) (now (st .exit)) ≡ lay mode (g.alternatives (now (s .entry)) (g.level (now (s .entry)) left) (length (now (s .entry))) (follows mode) binder) (at (now (out .entry)) (now (st .entry))) ⌝ }
 {
-    let mut now_at = st;
     let mut turns = s.len();
     loop {
-        if now_at.full {
-            return now_at;
-        }
-        if now_at.error != 0 {
-            return text::invalid(out, now_at, mode);
+        if st[1] != 0 {
+            text::invalid(out, st, mode);
+            return;
         }
         if turns == 0 {
-            return failed(now_at, 1);
+            fail(st, 1);
+            return;
         }
-        let at = now_at.place;
+        let at = st[0];
         let behind = eat(s, at, b'E');
         if behind != at {
-            return moved(now_at, behind);
+            go(st, behind);
+            return;
         }
-        let apart = text::word(out, now_at, words::OR, mode);
-        now_at = part(s, out, apart, Kind::Pat, left, binder, mode);
+        text::word(out, st, words::OR, mode);
+        pat(s, out, st, left, binder, mode);
         turns -= 1;
     }
 }
@@ -1107,176 +810,111 @@ fn alts(s: &[u8], out: &mut [u8], st: State, left: usize, binder: u64, mode: u8)
 fn con(
     s: &[u8],
     out: &mut [u8],
-    place: usize,
-    damaged: bool,
-    written: usize,
+    st: &mut [usize; 4],
     value: bool,
     left: usize,
     binder: u64,
     mode: u8,
-) -> State
-    ensures { λ r. ⌜ world (now (out .exit)) r ≡ lay mode ((g.level (now (s .entry)) left) .con value (follows mode) binder) (world (now (out .entry)) (good place damaged written)) ⌝ }
+)
+    ensures { λ _. ⌜ at (now (out .exit)) (now (st .exit)) ≡ lay mode ((g.level (now (s .entry)) left) .con value (follows mode) binder) (at (now (out .entry)) (now (st .entry))) ⌝ }
 {
-    let Byte::Read(b, behind) = next(s, place) else {
-        return text::invalid(out, plain(place, damaged, written), mode);
-    };
+    if st[1] != 0 {
+        text::word(out, st, words::ASK, mode);
+        return;
+    }
     if left == 0 {
-        return text::too_deep(out, plain(place, damaged, written), mode);
+        leaf::no_level(s, out, st, mode);
+        return;
     }
-    match b {
-        b'p' => text::word(
-            out,
-            plain(behind, damaged, written),
-            words::UNDERSCORE,
-            mode,
-        ),
-        b'b' => leaf::boolean(s, out, behind, damaged, written, mode),
-        b'c' => leaf::character(s, out, behind, damaged, written, mode),
-        b'e' => brac(
-            s,
-            out,
-            behind,
-            damaged,
-            written,
-            b'e',
-            value,
-            left - 1,
-            binder,
-            mode,
-        ),
-        b'R' => refc(
-            s,
-            out,
-            behind,
-            damaged,
-            written,
-            value,
-            left - 1,
-            binder,
-            mode,
-        ),
-        b'Q' => brac(
-            s,
-            out,
-            behind,
-            damaged,
-            written,
-            b'Q',
-            value,
-            left - 1,
-            binder,
-            mode,
-        ),
-        b'A' => brac(
-            s,
-            out,
-            behind,
-            damaged,
-            written,
-            b'A',
-            value,
-            left - 1,
-            binder,
-            mode,
-        ),
-        b'T' => brac(
-            s,
-            out,
-            behind,
-            damaged,
-            written,
-            b'T',
-            value,
-            left - 1,
-            binder,
-            mode,
-        ),
-        b'V' => adt(
-            s,
-            out,
-            behind,
-            damaged,
-            written,
-            value,
-            left - 1,
-            binder,
-            mode,
-        ),
-        b'B' => back(
-            s,
-            out,
-            behind,
-            damaged,
-            written,
-            const_kind(value),
-            left - 1,
-            binder,
-            mode,
-        ),
-        _ => leaf::integer(s, out, place, behind, damaged, written, b, mode),
-    }
+    cons(s, out, st, value, left - 1, binder, mode);
 }
 
-// A reference to a constant: to a string it is the string.
-fn refc(
+fn cons(
     s: &[u8],
     out: &mut [u8],
-    place: usize,
-    damaged: bool,
-    written: usize,
+    st: &mut [usize; 4],
     value: bool,
     left: usize,
     binder: u64,
     mode: u8,
-) -> State
-    ensures { λ r. ⌜ world (now (out .exit)) r ≡ lay mode (g.refConst (now (s .entry)) (g.level (now (s .entry)) left) value (follows mode) binder) (world (now (out .entry)) (good place damaged written)) ⌝ }
+)
+    requires { ⌜ Going (stateOf (now st)) ⌝ }
+    ensures { λ _. ⌜ at (now (out .exit)) (now (st .exit)) ≡ lay mode (g.byTag (now (s .entry)) tt (g.constTags (now (s .entry)) (g.level (now (s .entry)) left) value (follows mode) binder) (g.integer (now (s .entry)))) (at (now (out .entry)) (now (st .entry))) ⌝ }
 {
-    let behind = eat(s, place, b'e');
-    if behind != place {
-        return leaf::literal(s, out, plain(behind, damaged, written), mode);
+    let t = look(s, st[0]);
+    let b = t.byte;
+    match b {
+        b'A' | b'Q' | b'R' | b'T' | b'e' => {
+            go(st, t.behind);
+            lit(s, out, st, b, value, left, binder, mode);
+        }
+        b'p' => {
+            go(st, t.behind);
+            text::word(out, st, words::UNDERSCORE, mode);
+        }
+        b'b' => {
+            go(st, t.behind);
+            leaf::boolean(s, out, st, mode);
+        }
+        b'c' => {
+            go(st, t.behind);
+            leaf::character(s, out, st, mode);
+        }
+        b'V' => {
+            go(st, t.behind);
+            adt(s, out, st, value, left, binder, mode);
+        }
+        b'B' => {
+            go(st, t.behind);
+            back(s, out, st, const_kind(value), left, binder, mode);
+        }
+        _ => leaf::integer(s, out, st, mode),
     }
-    brac(
-        s,
-        out,
-        place,
-        damaged,
-        written,
-        b'R',
-        value,
-        left,
-        binder,
-        mode,
-    )
 }
 
-// A constant that stands in braces outside a value.
+// A constant that stands in braces outside a value; but a reference to a string is the string.
+fn lit(
+    s: &[u8],
+    out: &mut [u8],
+    st: &mut [usize; 4],
+    b: u8,
+    value: bool,
+    left: usize,
+    binder: u64,
+    mode: u8,
+)
+    requires { ⌜ Going (stateOf (now st)) ⌝ }
+    ensures { λ _. ⌜ at (now (out .exit)) (now (st .exit)) ≡ lay mode (g.litBy (now (s .entry)) (g.level (now (s .entry)) left) b value (follows mode) binder) (at (now (out .entry)) (now (st .entry))) ⌝ }
+{
+    let place = st[0];
+    let behind = crate::read::string_mark(s, place, b);
+    if behind != place {
+        go(st, behind);
+        leaf::literal(s, out, st, mode);
+        return;
+    }
+    brac(s, out, st, b, value, left, binder, mode);
+}
+
 fn brac(
     s: &[u8],
     out: &mut [u8],
-    place: usize,
-    damaged: bool,
-    written: usize,
+    st: &mut [usize; 4],
     tag: u8,
     value: bool,
     left: usize,
     binder: u64,
     mode: u8,
-) -> State
-    ensures { λ r. ⌜ world (now (out .exit)) r ≡ lay mode (g.bracedBy (now (s .entry)) (g.level (now (s .entry)) left) tag value (follows mode) binder) (world (now (out .entry)) (good place damaged written)) ⌝ }
+)
+    ensures { λ _. ⌜ at (now (out .exit)) (now (st .exit)) ≡ lay mode (g.bracedBy (now (s .entry)) (g.level (now (s .entry)) left) tag value (follows mode) binder) (at (now (out .entry)) (now (st .entry))) ⌝ }
 {
-    let opened = text::word_if(
-        out,
-        plain(place, damaged, written),
-        !value,
-        words::BRACE,
-        mode,
-    );
-    let inner = body(s, out, opened, tag, left, binder, mode);
-    text::word_if(out, inner, !value, words::CLOSE, mode)
+    text::word_if(out, st, !value, words::BRACE, mode);
+    body(s, out, st, tag, left, binder, mode);
+    text::word_if(out, st, !value, words::CLOSE, mode);
 }
 
-fn body(s: &[u8], out: &mut [u8], st: State, tag: u8, left: usize, binder: u64, mode: u8) -> State
-    ensures { λ r. ⌜ world (now (out .exit)) r ≡ lay mode (g.bodyBy (now (s .entry)) (g.level (now (s .entry)) left) tag (follows mode) binder) (world (now (out .entry)) st) ⌝ }
+fn body(s: &[u8], out: &mut [u8], st: &mut [usize; 4], tag: u8, left: usize, binder: u64, mode: u8)
+    ensures { λ _. ⌜ at (now (out .exit)) (now (st .exit)) ≡ lay mode (g.bodyBy (now (s .entry)) (g.level (now (s .entry)) left) tag (follows mode) binder) (at (now (out .entry)) (now (st .entry))) ⌝ }
 {
     match tag {
         b'e' => leaf::unsized_literal(s, out, st, mode),
@@ -1285,125 +923,121 @@ fn body(s: &[u8], out: &mut [u8], st: State, tag: u8, left: usize, binder: u64, 
             out,
             st,
             words::BRACKET,
-            Kind::Expr,
+            Item::Expr,
             words::BRACKET_END,
             left,
             binder,
             mode,
         ),
-        b'T' => tup(s, out, st, Kind::Expr, left, binder, mode),
-        b'Q' => refk(s, out, st, true, left, binder, mode),
-        _ => refk(s, out, st, false, left, binder, mode),
+        b'T' => tup(s, out, st, Item::Expr, left, binder, mode),
+        _ => refk(s, out, st, tag == b'Q', left, binder, mode),
     }
 }
 
 fn refk(
     s: &[u8],
     out: &mut [u8],
-    st: State,
+    st: &mut [usize; 4],
     is_mut: bool,
     left: usize,
     binder: u64,
     mode: u8,
-) -> State
-    ensures { λ r. ⌜ world (now (out .exit)) r ≡ lay mode (g.referTo (now (s .entry)) (g.level (now (s .entry)) left) «is_mut» (follows mode) binder) (world (now (out .entry)) st) ⌝ }
+)
+    ensures { λ _. ⌜ at (now (out .exit)) (now (st .exit)) ≡ lay mode (g.referTo (now (s .entry)) (g.level (now (s .entry)) left) «is_mut» (follows mode) binder) (at (now (out .entry)) (now (st .entry))) ⌝ }
 {
-    let sign = text::word(out, st, words::REF, mode);
-    let muted = text::word_if(out, sign, is_mut, words::MUT, mode);
-    part(s, out, muted, Kind::Expr, left, binder, mode)
+    text::word(out, st, words::REF, mode);
+    text::word_if(out, st, is_mut, words::MUT, mode);
+    con(s, out, st, true, left, binder, mode);
 }
 
 // A list from a word to a word.
 fn seq(
     s: &[u8],
     out: &mut [u8],
-    st: State,
+    st: &mut [usize; 4],
     from: usize,
-    kind: Kind,
+    item: Item,
     to: usize,
     left: usize,
     binder: u64,
     mode: u8,
-) -> State
-    ensures { λ r. ⌜ world (now (out .exit)) r ≡ lay mode (g.between (now (s .entry)) (g.level (now (s .entry)) left) from kind to (follows mode) binder) (world (now (out .entry)) st) ⌝ }
+)
+    ensures { λ _. ⌜ at (now (out .exit)) (now (st .exit)) ≡ lay mode (g.between (now (s .entry)) (g.level (now (s .entry)) left) from item to (follows mode) binder) (at (now (out .entry)) (now (st .entry))) ⌝ }
 {
-    let opened = text::word(out, st, from, mode);
-    let listed = list(s, out, opened, kind, left, binder, mode);
-    let last = listed.st;
-    text::word(out, last, to, mode)
+    text::word(out, st, from, mode);
+    list(s, out, st, item, left, binder, mode);
+    text::word(out, st, to, mode);
 }
 
 // A value of a struct or an enum: its path, and its fields. Where those are not read, no brace closes it.
 fn adt(
     s: &[u8],
     out: &mut [u8],
-    place: usize,
-    damaged: bool,
-    written: usize,
+    st: &mut [usize; 4],
     value: bool,
     left: usize,
     binder: u64,
     mode: u8,
-) -> State
-    ensures { λ r. ⌜ world (now (out .exit)) r ≡ lay mode (g.adt (now (s .entry)) (g.level (now (s .entry)) left) value (follows mode) binder) (world (now (out .entry)) (good place damaged written)) ⌝ }
+)
+    ensures { λ _. ⌜ at (now (out .exit)) (now (st .exit)) ≡ lay mode (g.adt (now (s .entry)) (g.level (now (s .entry)) left) value (follows mode) binder) (at (now (out .entry)) (now (st .entry))) ⌝ }
 {
-    let opened = text::word_if(
-        out,
-        plain(place, damaged, written),
-        !value,
-        words::BRACE,
-        mode,
-    );
-    let named = part(s, out, opened, Kind::Value, left, binder, mode);
-    vars(s, out, named, value, left, binder, mode)
+    text::word_if(out, st, !value, words::BRACE, mode);
+    path(s, out, st, true, left, binder, mode);
+    vars(s, out, st, value, left, binder, mode);
 }
 
 fn vars(
     s: &[u8],
     out: &mut [u8],
-    st: State,
+    st: &mut [usize; 4],
     value: bool,
     left: usize,
     binder: u64,
     mode: u8,
-) -> State
-    ensures { λ r. ⌜ world (now (out .exit)) r ≡ lay mode (g.variant (now (s .entry)) (g.level (now (s .entry)) left) value (follows mode) binder) (world (now (out .entry)) st) ⌝ }
+)
+    ensures { λ _. ⌜ at (now (out .exit)) (now (st .exit)) ≡ lay mode (g.variant (now (s .entry)) (g.level (now (s .entry)) left) value (follows mode) binder) (at (now (out .entry)) (now (st .entry))) ⌝ }
 {
-    if st.full {
-        return st;
+    if st[1] != 0 {
+        text::word(out, st, words::ASK, mode);
+        return;
     }
-    if st.error != 0 {
-        return text::word(out, st, words::ASK, mode);
-    }
-    let Byte::Read(b, behind) = next(s, st.place) else {
-        return text::invalid(out, st, mode);
-    };
+    let t = look(s, st[0]);
+    let b = t.byte;
     match b {
-        b'U' => text::word_if(out, moved(st, behind), !value, words::CLOSE, mode),
-        b'T' => flds(
-            s,
-            out,
-            moved(st, behind),
-            words::PAREN,
-            Kind::Expr,
-            words::PAREN_END,
-            value,
-            left,
-            binder,
-            mode,
-        ),
-        b'S' => flds(
-            s,
-            out,
-            moved(st, behind),
-            words::FIELDS,
-            Kind::Field,
-            words::FIELDS_END,
-            value,
-            left,
-            binder,
-            mode,
-        ),
+        b'U' => {
+            go(st, t.behind);
+            text::word_if(out, st, !value, words::CLOSE, mode);
+        }
+        b'T' => {
+            go(st, t.behind);
+            flds(
+                s,
+                out,
+                st,
+                words::PAREN,
+                Item::Expr,
+                words::PAREN_END,
+                value,
+                left,
+                binder,
+                mode,
+            );
+        }
+        b'S' => {
+            go(st, t.behind);
+            flds(
+                s,
+                out,
+                st,
+                words::FIELDS,
+                Item::Field,
+                words::FIELDS_END,
+                value,
+                left,
+                binder,
+                mode,
+            );
+        }
         _ => text::invalid(out, st, mode),
     }
 }
@@ -1411,103 +1045,104 @@ fn vars(
 fn flds(
     s: &[u8],
     out: &mut [u8],
-    st: State,
+    st: &mut [usize; 4],
     from: usize,
-    kind: Kind,
+    item: Item,
     to: usize,
     value: bool,
     left: usize,
     binder: u64,
     mode: u8,
-) -> State
-    ensures { λ r. ⌜ world (now (out .exit)) r ≡ lay mode (g.fields (now (s .entry)) (g.level (now (s .entry)) left) from kind to value (follows mode) binder) (world (now (out .entry)) st) ⌝ }
+)
+    ensures { λ _. ⌜ at (now (out .exit)) (now (st .exit)) ≡ lay mode (g.fields (now (s .entry)) (g.level (now (s .entry)) left) from item to value (follows mode) binder) (at (now (out .entry)) (now (st .entry))) ⌝ }
 {
-    let listed = seq(s, out, st, from, kind, to, left, binder, mode);
-    text::word_if(out, listed, !value, words::CLOSE, mode)
+    seq(s, out, st, from, item, to, left, binder, mode);
+    text::word_if(out, st, !value, words::CLOSE, mode);
 }
 
 // A field of a struct: its name and its value.
-fn fld(
-    s: &[u8],
-    out: &mut [u8],
-    place: usize,
-    damaged: bool,
-    written: usize,
-    left: usize,
-    binder: u64,
-    mode: u8,
-) -> State
-    ensures { λ r. ⌜ world (now (out .exit)) r ≡ lay mode (g.field (now (s .entry)) (g.level (now (s .entry)) left) (follows mode) binder) (world (now (out .entry)) (good place damaged written)) ⌝ }
+fn fld(s: &[u8], out: &mut [u8], st: &mut [usize; 4], left: usize, binder: u64, mode: u8)
+    ensures { λ _. ⌜ at (now (out .exit)) (now (st .exit)) ≡ lay mode (g.field (now (s .entry)) (g.level (now (s .entry)) left) (follows mode) binder) (at (now (out .entry)) (now (st .entry))) ⌝ }
 {
-    let Named::Of(_, a, b, c, e) = crate::read::numbered(s, place) else {
-        return text::invalid(out, plain(place, damaged, written), mode);
+    if st[1] != 0 {
+        text::word(out, st, words::ASK, mode);
+        return;
+    }
+    let Named::Of(_, a, b, c, e) = crate::read::numbered(s, st[0]) else {
+        text::invalid(out, st, mode);
+        return;
     };
-    let named = leaf::field_name(s, out, plain(e, damaged, written), a, b, c, e, mode);
-    part(s, out, named, Kind::Expr, left, binder, mode)
+    go(st, e);
+    leaf::field_name(s, out, st, a, b, c, e, mode);
+    con(s, out, st, true, left, binder, mode);
 }
 
-// A list, up to the `E` that ends it. No list has more elements than the symbol has bytes.
+// A list, up to the `E` that ends it: how many elements it has. No list has more elements than the symbol has bytes.
 fn list(
     s: &[u8],
     out: &mut [u8],
-    st: State,
-    kind: Kind,
+    st: &mut [usize; 4],
+    item: Item,
     left: usize,
     binder: u64,
     mode: u8,
-) -> Counted
-    ensures { λ r. ⌜ counted (now (out .exit)) r ≡ lays 0 mode (g.list (now (s .entry)) (g.level (now (s .entry)) left) kind (follows mode) binder) (world (now (out .entry)) st) ⌝ }
+) -> usize
+    ensures { λ r. ⌜ given r (now (out .exit)) (now (st .exit)) ≡ lays 0 mode (g.list (now (s .entry)) (g.level (now (s .entry)) left) item (follows mode) binder) (at (now (out .entry)) (now (st .entry))) ⌝ }
 {
-    let mut now_at = st;
     let mut i = 0;
     let mut turns = s.len();
     loop {
-        if now_at.full {
-            return Counted {
-                st: now_at,
-                count: 0,
-            };
+        if st[1] == 3 {
+            return 0;
         }
-        if now_at.error != 0 {
-            return Counted {
-                st: now_at,
-                count: i,
-            };
+        if st[1] != 0 {
+            return i;
         }
         if turns == 0 {
-            return Counted {
-                st: failed(now_at, 1),
-                count: i,
-            };
+            fail(st, 1);
+            return i;
         }
-        let at = now_at.place;
+        let at = st[0];
         let behind = eat(s, at, b'E');
         if behind != at {
-            return Counted {
-                st: moved(now_at, behind),
-                count: i,
-            };
+            go(st, behind);
+            return i;
         }
-        let apart = text::separator(out, now_at, i, separator(kind), mode);
-        now_at = part(s, out, apart, kind, left, binder, mode);
+        text::separator(out, st, i, separator(item), mode);
+        one(s, out, st, item, left, binder, mode);
         i += 1;
         turns -= 1;
     }
 }
 
-fn separator(kind: Kind) -> usize
-    ensures { λ r. ⌜ r ≡ g.sepOf kind ⌝ }
+fn one(
+    s: &[u8],
+    out: &mut [u8],
+    st: &mut [usize; 4],
+    item: Item,
+    left: usize,
+    binder: u64,
+    mode: u8,
+)
+    ensures { λ _. ⌜ at (now (out .exit)) (now (st .exit)) ≡ lay mode (g.element (now (s .entry)) (g.level (now (s .entry)) left) item (follows mode) binder) (at (now (out .entry)) (now (st .entry))) ⌝ }
 {
-    match kind {
-        Kind::Trait => words::PLUS,
-        Kind::Path => words::COMMA_BLANK,
-        Kind::Value => words::COMMA_BLANK,
-        Kind::Ty => words::COMMA_BLANK,
-        Kind::Bare => words::COMMA_BLANK,
-        Kind::Arg => words::COMMA_BLANK,
-        Kind::Const => words::COMMA_BLANK,
-        Kind::Expr => words::COMMA_BLANK,
-        Kind::Field => words::COMMA_BLANK,
-        Kind::Pat => words::COMMA_BLANK,
+    match item {
+        Item::Ty => ty(s, out, st, left, binder, mode),
+        Item::Arg => arg(s, out, st, left, binder, mode),
+        Item::Expr => con(s, out, st, true, left, binder, mode),
+        Item::Field => fld(s, out, st, left, binder, mode),
+        Item::Trait => bind(s, out, st, left, binder, mode),
+    }
+}
+
+fn separator(item: Item) -> usize
+    ensures { λ r. ⌜ r ≡ g.sepOf item ⌝ }
+{
+    match item {
+        Item::Trait => words::PLUS,
+        Item::Ty => words::COMMA_BLANK,
+        Item::Arg => words::COMMA_BLANK,
+        Item::Expr => words::COMMA_BLANK,
+        Item::Field => words::COMMA_BLANK,
     }
 }

@@ -1,10 +1,10 @@
 // The parts of a symbol that hold no other part: names, lifetimes, binders, literals.
+use crate::read::Head;
 use crate::read::Literal;
 use crate::read::Named;
+use crate::read::look;
 use crate::read::numbered;
-use crate::state::State;
-use crate::state::moved;
-use crate::state::plain;
+use crate::state::go;
 use crate::text;
 use nibbles::uint::Hex;
 use nibbles::uint::hex_value;
@@ -22,69 +22,77 @@ ghost use Rattle.pieces.specs.Piece.{word, number};
 ghost use Rattle.pieces.specs.Words as W;
 ghost use Rattle.printer.specs.Says.{emit};
 ghost use Rattle.printer.specs.Readings.{Within};
-ghost use Rattle.printer.specs.Lay.{World, world, lay, good, follows};
+ghost use Rattle.printer.specs.Lay.{Going, stateOf, at, given, lay, lays, follows};
 ghost use Rattle.printer.specs.Model as g;
 
 // An identifier that was read.
 fn name(
     s: &[u8],
     out: &mut [u8],
-    st: State,
+    st: &mut [usize; 4],
     a: usize,
     b: usize,
     c: usize,
     e: usize,
     mode: u8,
-) -> State
+)
     requires { ⌜ Within (now s) a b c e ⌝ }
-    ensures { λ r. ⌜ world (now (out .exit)) r ≡ lay mode (emit (g.ident (now (s .entry)) a b c e ∷ [])) (world (now (out .entry)) st) ⌝ }
+    ensures { λ _. ⌜ at (now (out .exit)) (now (st .exit)) ≡ lay mode (emit (g.ident (now (s .entry)) a b c e ∷ [])) (at (now (out .entry)) (now (st .entry))) ⌝ }
 {
-    text::name(out, st, &s[a..e], b - a, c - a, mode)
+    text::name(out, st, &s[a..e], b - a, c - a, mode);
+}
+
+// What needs a level where none is left: the end of the symbol is Invalid all the same.
+pub fn no_level(s: &[u8], out: &mut [u8], st: &mut [usize; 4], mode: u8)
+    requires { ⌜ Going (stateOf (now st)) ⌝ }
+    ensures { λ _. ⌜ at (now (out .exit)) (now (st .exit)) ≡ lay mode (g.noLevel (now (s .entry))) (at (now (out .entry)) (now (st .entry))) ⌝ }
+{
+    if st[0] < s.len() {
+        text::too_deep(out, st, mode);
+        return;
+    }
+    text::invalid(out, st, mode);
 }
 
 // A crate's name and number.
-pub fn krate(
-    s: &[u8],
-    out: &mut [u8],
-    place: usize,
-    damaged: bool,
-    written: usize,
-    mode: u8,
-) -> State
-    ensures { λ r. ⌜ world (now (out .exit)) r ≡ lay mode (g.krate (now (s .entry))) (world (now (out .entry)) (good place damaged written)) ⌝ }
+pub fn krate(s: &[u8], out: &mut [u8], st: &mut [usize; 4], mode: u8)
+    requires { ⌜ Going (stateOf (now st)) ⌝ }
+    ensures { λ _. ⌜ at (now (out .exit)) (now (st .exit)) ≡ lay mode (g.krate (now (s .entry))) (at (now (out .entry)) (now (st .entry))) ⌝ }
 {
-    let Named::Of(d, a, b, c, e) = numbered(s, place) else {
-        return text::invalid(out, plain(place, damaged, written), mode);
+    let Named::Of(d, a, b, c, e) = numbered(s, st[0]) else {
+        text::invalid(out, st, mode);
+        return;
     };
-    let shown = name(s, out, plain(e, damaged, written), a, b, c, e, mode);
-    text::crate_number(out, shown, d, mode)
+    go(st, e);
+    name(s, out, st, a, b, c, e, mode);
+    text::crate_number(out, st, d, mode);
 }
 
 // An identifier with a word before it, unless it is empty.
 fn after_word(
     s: &[u8],
     out: &mut [u8],
-    st: State,
+    st: &mut [usize; 4],
     k: usize,
     a: usize,
     b: usize,
     c: usize,
     e: usize,
     mode: u8,
-) -> State
+)
     requires { ⌜ Within (now s) a b c e ⌝ }
-    ensures { λ r. ⌜ world (now (out .exit)) r ≡ lay mode (emit (g.unlessEmpty (now (s .entry)) k a b c e)) (world (now (out .entry)) st) ⌝ }
+    ensures { λ _. ⌜ at (now (out .exit)) (now (st .exit)) ≡ lay mode (emit (g.unlessEmpty (now (s .entry)) k a b c e)) (at (now (out .entry)) (now (st .entry))) ⌝ }
 {
     if a == e {
-        return st;
+        return;
     }
-    let before = text::word(out, st, k, mode);
-    name(s, out, before, a, b, c, e, mode)
+    text::word(out, st, k, mode);
+    name(s, out, st, a, b, c, e, mode);
 }
 
 // The name of a special namespace.
-fn namespace(out: &mut [u8], st: State, ns: u8, mode: u8) -> State
-    ensures { λ r. ⌜ world (now (out .exit)) r ≡ lay mode (emit (g.spaceName ns ∷ [])) (world (now (out .entry)) st) ⌝ }
+fn namespace(out: &mut [u8], st: &mut [usize; 4], ns: u8, mode: u8)
+    ensures { λ _. ⌜ at (now (out .exit)) (now (st .exit)) ≡ lay mode (emit (g.spaceName ns ∷ [])) (at (now (out .entry)) (now (st .entry))) ⌝ }
 {
     match ns {
         b'C' => text::word(out, st, words::CLOSURE, mode),
@@ -94,19 +102,19 @@ fn namespace(out: &mut [u8], st: State, ns: u8, mode: u8) -> State
 }
 
 // `#1}`
-fn counter(out: &mut [u8], st: State, d: u64, mode: u8) -> State
-    ensures { λ r. ⌜ world (now (out .exit)) r ≡ lay mode (emit (word W.hash ∷ number d ∷ word W.close ∷ [])) (world (now (out .entry)) st) ⌝ }
+fn counter(out: &mut [u8], st: &mut [usize; 4], d: u64, mode: u8)
+    ensures { λ _. ⌜ at (now (out .exit)) (now (st .exit)) ≡ lay mode (emit (word W.hash ∷ number d ∷ word W.close ∷ [])) (at (now (out .entry)) (now (st .entry))) ⌝ }
 {
-    let sign = text::word(out, st, words::HASH, mode);
-    let shown = text::number(out, sign, d, mode);
-    text::word(out, shown, words::CLOSE, mode)
+    text::word(out, st, words::HASH, mode);
+    text::number(out, st, d, mode);
+    text::word(out, st, words::CLOSE, mode);
 }
 
 // `::{closure:name#1}`
 fn special(
     s: &[u8],
     out: &mut [u8],
-    st: State,
+    st: &mut [usize; 4],
     ns: u8,
     d: u64,
     a: usize,
@@ -114,69 +122,70 @@ fn special(
     c: usize,
     e: usize,
     mode: u8,
-) -> State
+)
     requires { ⌜ Within (now s) a b c e ⌝ }
-    ensures { λ r. ⌜ world (now (out .exit)) r ≡ lay mode (emit (g.specialName (now (s .entry)) ns d a b c e)) (world (now (out .entry)) st) ⌝ }
+    ensures { λ _. ⌜ at (now (out .exit)) (now (st .exit)) ≡ lay mode (emit (g.specialName (now (s .entry)) ns d a b c e)) (at (now (out .entry)) (now (st .entry))) ⌝ }
 {
-    let opened = text::word(out, st, words::SPECIAL, mode);
-    let kind = namespace(out, opened, ns, mode);
-    let called = after_word(s, out, kind, words::COLON, a, b, c, e, mode);
-    counter(out, called, d, mode)
+    text::word(out, st, words::SPECIAL, mode);
+    namespace(out, st, ns, mode);
+    after_word(s, out, st, words::COLON, a, b, c, e, mode);
+    counter(out, st, d, mode);
 }
 
 // The name of a nested path, behind the path: of a special namespace with its letter, of another with 0.
-pub fn nested(s: &[u8], out: &mut [u8], st: State, ns: u8, mode: u8) -> State
-    ensures { λ r. ⌜ world (now (out .exit)) r ≡ lay mode (g.nested (now (s .entry)) ns) (world (now (out .entry)) st) ⌝ }
+pub fn nested(s: &[u8], out: &mut [u8], st: &mut [usize; 4], ns: u8, mode: u8)
+    ensures { λ _. ⌜ at (now (out .exit)) (now (st .exit)) ≡ lay mode (g.nested (now (s .entry)) ns) (at (now (out .entry)) (now (st .entry))) ⌝ }
 {
-    if st.full {
-        return st;
+    if st[1] != 0 {
+        text::word(out, st, words::ASK, mode);
+        return;
     }
-    if st.error != 0 {
-        return text::word(out, st, words::ASK, mode);
-    }
-    let Named::Of(d, a, b, c, e) = numbered(s, st.place) else {
-        return text::invalid(out, st, mode);
+    let Named::Of(d, a, b, c, e) = numbered(s, st[0]) else {
+        text::invalid(out, st, mode);
+        return;
     };
+    go(st, e);
     if ns == 0 {
-        return after_word(s, out, moved(st, e), words::COLONS, a, b, c, e, mode);
+        after_word(s, out, st, words::COLONS, a, b, c, e, mode);
+        return;
     }
-    special(s, out, moved(st, e), ns, d, a, b, c, e, mode)
+    special(s, out, st, ns, d, a, b, c, e, mode);
 }
 
 // The name of an associated type, before what is bound to it.
 pub fn bind_name(
     s: &[u8],
     out: &mut [u8],
-    st: State,
+    st: &mut [usize; 4],
     a: usize,
     b: usize,
     c: usize,
     e: usize,
     mode: u8,
-) -> State
+)
     requires { ⌜ Within (now s) a b c e ⌝ }
-    ensures { λ r. ⌜ world (now (out .exit)) r ≡ lay mode (emit (g.ident (now (s .entry)) a b c e ∷ word W.equals ∷ [])) (world (now (out .entry)) st) ⌝ }
+    ensures { λ _. ⌜ at (now (out .exit)) (now (st .exit)) ≡ lay mode (emit (g.ident (now (s .entry)) a b c e ∷ word W.equals ∷ [])) (at (now (out .entry)) (now (st .entry))) ⌝ }
 {
-    let shown = name(s, out, st, a, b, c, e, mode);
-    text::word(out, shown, words::EQUALS, mode)
+    name(s, out, st, a, b, c, e, mode);
+    text::word(out, st, words::EQUALS, mode);
 }
 
 // The name of a field.
 pub fn field_name(
     s: &[u8],
     out: &mut [u8],
-    st: State,
+    st: &mut [usize; 4],
     a: usize,
     b: usize,
     c: usize,
     e: usize,
     mode: u8,
-) -> State
+)
     requires { ⌜ Within (now s) a b c e ⌝ }
-    ensures { λ r. ⌜ world (now (out .exit)) r ≡ lay mode (emit (g.ident (now (s .entry)) a b c e ∷ word W.field ∷ [])) (world (now (out .entry)) st) ⌝ }
+    ensures { λ _. ⌜ at (now (out .exit)) (now (st .exit)) ≡ lay mode (emit (g.ident (now (s .entry)) a b c e ∷ word W.field ∷ [])) (at (now (out .entry)) (now (st .entry))) ⌝ }
 {
-    let shown = name(s, out, st, a, b, c, e, mode);
-    text::word(out, shown, words::FIELD, mode)
+    name(s, out, st, a, b, c, e, mode);
+    text::word(out, st, words::FIELD, mode);
 }
 
 // What stands before a binding: the first opens the generics, where they are not open.
@@ -202,96 +211,141 @@ pub fn less_word(value: bool) -> usize
 }
 
 // A lifetime that no binder binds.
-fn unbound(out: &mut [u8], st: State, mode: u8) -> State
-    ensures { λ r. ⌜ world (now (out .exit)) r ≡ lay mode (g.unbound) (world (now (out .entry)) st) ⌝ }
+fn unbound(out: &mut [u8], st: &mut [usize; 4], mode: u8)
+    ensures { λ _. ⌜ at (now (out .exit)) (now (st .exit)) ≡ lay mode (g.unbound) (at (now (out .entry)) (now (st .entry))) ⌝ }
 {
-    let tick = text::word(out, st, words::TICK, mode);
-    text::invalid(out, tick, mode)
+    text::word(out, st, words::TICK, mode);
+    text::invalid(out, st, mode);
 }
 
 // `'_`
-fn no_name(out: &mut [u8], st: State, mode: u8) -> State
-    ensures { λ r. ⌜ world (now (out .exit)) r ≡ lay mode (emit (word W.tick ∷ word W.underscore ∷ [])) (world (now (out .entry)) st) ⌝ }
+fn no_name(out: &mut [u8], st: &mut [usize; 4], mode: u8)
+    ensures { λ _. ⌜ at (now (out .exit)) (now (st .exit)) ≡ lay mode (emit (word W.tick ∷ word W.underscore ∷ [])) (at (now (out .entry)) (now (st .entry))) ⌝ }
 {
-    let tick = text::word(out, st, words::TICK, mode);
-    text::word(out, tick, words::UNDERSCORE, mode)
+    text::word(out, st, words::TICK, mode);
+    text::word(out, st, words::UNDERSCORE, mode);
 }
 
 // A lifetime by its number, looked up unless nothing is printed.
-fn life(out: &mut [u8], st: State, lt: u64, binder: u64, mode: u8) -> State
-    ensures { λ r. ⌜ world (now (out .exit)) r ≡ lay mode (g.lifeOf (follows mode) binder lt) (world (now (out .entry)) st) ⌝ }
+fn life(out: &mut [u8], st: &mut [usize; 4], lt: u64, binder: u64, mode: u8)
+    ensures { λ _. ⌜ at (now (out .exit)) (now (st .exit)) ≡ lay mode (g.lifeOf (follows mode) binder lt) (at (now (out .entry)) (now (st .entry))) ⌝ }
 {
     if mode == 0 {
-        return st;
+        return;
     }
     if lt == 0 {
-        return no_name(out, st, mode);
+        no_name(out, st, mode);
+        return;
     }
     if lt <= binder {
-        return text::life(out, st, binder - lt, mode);
+        text::life(out, st, binder - lt, mode);
+        return;
     }
-    unbound(out, st, mode)
+    unbound(out, st, mode);
 }
 
 // The lifetime of a generic argument.
-pub fn lifetime(
-    s: &[u8],
-    out: &mut [u8],
-    place: usize,
-    damaged: bool,
-    written: usize,
-    binder: u64,
-    mode: u8,
-) -> State
-    ensures { λ r. ⌜ world (now (out .exit)) r ≡ lay mode (g.lifetime (now (s .entry)) (follows mode) binder) (world (now (out .entry)) (good place damaged written)) ⌝ }
+pub fn lifetime(s: &[u8], out: &mut [u8], st: &mut [usize; 4], binder: u64, mode: u8)
+    requires { ⌜ Going (stateOf (now st)) ⌝ }
+    ensures { λ _. ⌜ at (now (out .exit)) (now (st .exit)) ≡ lay mode (g.lifetime (now (s .entry)) (follows mode) binder) (at (now (out .entry)) (now (st .entry))) ⌝ }
 {
-    let Num::Value(lt, next) = integer_62(s, place) else {
-        return text::invalid(out, plain(place, damaged, written), mode);
+    let Num::Value(lt, next) = integer_62(s, st[0]) else {
+        text::invalid(out, st, mode);
+        return;
     };
-    life(out, plain(next, damaged, written), lt, binder, mode)
+    go(st, next);
+    life(out, st, lt, binder, mode);
 }
 
 // The lifetime of a reference, and a blank; nothing for 0.
-pub fn ref_life(out: &mut [u8], st: State, lt: u64, binder: u64, mode: u8) -> State
-    ensures { λ r. ⌜ world (now (out .exit)) r ≡ lay mode (g.refLife (follows mode) binder lt) (world (now (out .entry)) st) ⌝ }
+pub fn ref_life(out: &mut [u8], st: &mut [usize; 4], lt: u64, binder: u64, mode: u8)
+    ensures { λ _. ⌜ at (now (out .exit)) (now (st .exit)) ≡ lay mode (g.refLife (follows mode) binder lt) (at (now (out .entry)) (now (st .entry))) ⌝ }
 {
     if lt == 0 {
-        return st;
+        return;
     }
-    let shown = life(out, st, lt, binder, mode);
-    text::byte(out, shown, b' ', mode)
+    life(out, st, lt, binder, mode);
+    text::byte(out, st, b' ', mode);
+}
+
+// A reference's sign, its lifetime and `mut`: whether what it refers to comes behind them.
+pub fn reference(
+    s: &[u8],
+    out: &mut [u8],
+    st: &mut [usize; 4],
+    is_mut: bool,
+    binder: u64,
+    mode: u8,
+) -> bool
+    ensures { λ r. ⌜ given r (now (out .exit)) (now (st .exit)) ≡ lays false mode (g.reference (now (s .entry)) «is_mut» (follows mode) binder) (at (now (out .entry)) (now (st .entry))) ⌝ }
+{
+    text::word(out, st, words::REF, mode);
+    ref_rest(s, out, st, is_mut, binder, mode)
+}
+
+fn ref_rest(
+    s: &[u8],
+    out: &mut [u8],
+    st: &mut [usize; 4],
+    is_mut: bool,
+    binder: u64,
+    mode: u8,
+) -> bool
+    ensures { λ r. ⌜ given r (now (out .exit)) (now (st .exit)) ≡ lays false mode (g.refRest (now (s .entry)) «is_mut» (follows mode) binder) (at (now (out .entry)) (now (st .entry))) ⌝ }
+{
+    if st[1] != 0 {
+        text::word(out, st, words::ASK, mode);
+        return false;
+    }
+    let Num::Value(lt, behind) = crate::read::lifetime(s, st[0]) else {
+        text::invalid(out, st, mode);
+        return false;
+    };
+    go(st, behind);
+    ref_life(out, st, lt, binder, mode);
+    text::word_if(out, st, is_mut, words::MUT, mode);
+    st[1] != 3
 }
 
 // The lifetime of a trait object; nothing for 0.
-fn end_life(out: &mut [u8], st: State, lt: u64, binder: u64, mode: u8) -> State
-    ensures { λ r. ⌜ world (now (out .exit)) r ≡ lay mode (g.endLife (follows mode) binder lt) (world (now (out .entry)) st) ⌝ }
+fn end_life(out: &mut [u8], st: &mut [usize; 4], lt: u64, binder: u64, mode: u8)
+    ensures { λ _. ⌜ at (now (out .exit)) (now (st .exit)) ≡ lay mode (g.endLife (follows mode) binder lt) (at (now (out .entry)) (now (st .entry))) ⌝ }
 {
     if lt == 0 {
-        return st;
+        return;
     }
-    let plus = text::word(out, st, words::PLUS, mode);
-    life(out, plus, lt, binder, mode)
+    text::word(out, st, words::PLUS, mode);
+    life(out, st, lt, binder, mode);
 }
 
 // The end of a trait object: an `L` and a lifetime; without it, and with an error set, the marker (once more).
-pub fn bound(s: &[u8], out: &mut [u8], st: State, binder: u64, mode: u8) -> State
-    ensures { λ r. ⌜ world (now (out .exit)) r ≡ lay mode (g.bound (now (s .entry)) (follows mode) binder) (world (now (out .entry)) st) ⌝ }
+pub fn bound(s: &[u8], out: &mut [u8], st: &mut [usize; 4], binder: u64, mode: u8)
+    ensures { λ _. ⌜ at (now (out .exit)) (now (st .exit)) ≡ lay mode (g.bound (now (s .entry)) (follows mode) binder) (at (now (out .entry)) (now (st .entry))) ⌝ }
 {
-    if st.full {
-        return st;
+    if st[1] != 0 {
+        text::invalid(out, st, mode);
+        return;
     }
-    if st.error != 0 {
-        return text::invalid(out, st, mode);
-    }
-    let place = st.place;
+    let place = st[0];
     let behind = eat(s, place, b'L');
     if behind == place {
-        return text::invalid(out, st, mode);
+        text::invalid(out, st, mode);
+        return;
     }
-    let Num::Value(lt, next) = integer_62(s, behind) else {
-        return text::invalid(out, moved(st, behind), mode);
+    go(st, behind);
+    bound_life(s, out, st, binder, mode);
+}
+
+fn bound_life(s: &[u8], out: &mut [u8], st: &mut [usize; 4], binder: u64, mode: u8)
+    requires { ⌜ Going (stateOf (now st)) ⌝ }
+    ensures { λ _. ⌜ at (now (out .exit)) (now (st .exit)) ≡ lay mode (g.boundLife (now (s .entry)) (follows mode) binder) (at (now (out .entry)) (now (st .entry))) ⌝ }
+{
+    let Num::Value(lt, next) = integer_62(s, st[0]) else {
+        text::invalid(out, st, mode);
+        return;
     };
-    end_life(out, moved(st, next), lt, binder, mode)
+    go(st, next);
+    end_life(out, st, lt, binder, mode);
 }
 
 // The sum, held at the largest number.
@@ -305,142 +359,161 @@ pub fn held(a: u64, b: u64) -> u64
 }
 
 // The i-th lifetime of a binder.
-fn one_life(out: &mut [u8], st: State, i: u64, count: u64, mode: u8) -> State
-    ensures { λ r. ⌜ world (now (out .exit)) r ≡ lay mode (emit (g.oneLife count i)) (world (now (out .entry)) st) ⌝ }
+fn one_life(out: &mut [u8], st: &mut [usize; 4], i: u64, count: u64, mode: u8)
+    ensures { λ _. ⌜ at (now (out .exit)) (now (st .exit)) ≡ lay mode (emit (g.oneLife count i)) (at (now (out .entry)) (now (st .entry))) ⌝ }
 {
     let named = held(count, i);
     if i == 0 {
-        return text::life(out, st, named, mode);
+        text::life(out, st, named, mode);
+        return;
     }
-    let comma = text::word(out, st, words::COMMA_BLANK, mode);
-    text::life(out, comma, named, mode)
+    text::word(out, st, words::COMMA_BLANK, mode);
+    text::life(out, st, named, mode);
 }
 
 // `for<'a, 'b> `: n lifetimes more than the binder count. It stops where the buffer is full.
-pub fn binder(out: &mut [u8], st: State, n: u64, count: u64, mode: u8) -> State
-    ensures { λ r. ⌜ world (now (out .exit)) r ≡ lay mode (emit (g.binder count n)) (world (now (out .entry)) st) ⌝ }
+pub fn binder(out: &mut [u8], st: &mut [usize; 4], n: u64, count: u64, mode: u8)
+    ensures { λ _. ⌜ at (now (out .exit)) (now (st .exit)) ≡ lay mode (emit (g.binder count n)) (at (now (out .entry)) (now (st .entry))) ⌝ }
 {
     if mode == 0 {
-        return st;
+        return;
     }
     if n == 0 {
-        return st;
+        return;
     }
-    let mut now_at = text::word(out, st, words::FOR, mode);
+    text::word(out, st, words::FOR, mode);
     let mut i = 0;
     while i < n {
-        if now_at.full {
-            return now_at;
+        if st[1] == 3 {
+            return;
         }
-        now_at = one_life(out, now_at, i, count, mode);
+        one_life(out, st, i, count, mode);
         i += 1;
     }
-    text::word(out, now_at, words::FOR_END, mode)
+    text::word(out, st, words::FOR_END, mode);
 }
 
-fn named_abi(s: &[u8], out: &mut [u8], st: State, a: usize, b: usize, mode: u8) -> State
+fn named_abi(s: &[u8], out: &mut [u8], st: &mut [usize; 4], a: usize, b: usize, mode: u8)
     requires { ⌜ (a ≤ b) × (b ≤ length (now s)) ⌝ }
-    ensures { λ r. ⌜ world (now (out .exit)) r ≡ lay mode (emit (g.abiPieces (now (s .entry)) a b)) (world (now (out .entry)) st) ⌝ }
+    ensures { λ _. ⌜ at (now (out .exit)) (now (st .exit)) ≡ lay mode (emit (g.abiPieces (now (s .entry)) a b)) (at (now (out .entry)) (now (st .entry))) ⌝ }
 {
-    let word = text::word(out, st, words::EXTERN, mode);
-    let shown = text::abi(out, word, &s[a..b], mode);
-    text::word(out, shown, words::EXTERN_END, mode)
+    text::word(out, st, words::EXTERN, mode);
+    text::abi(out, st, &s[a..b], mode);
+    text::word(out, st, words::EXTERN_END, mode);
 }
 
-fn c_abi(out: &mut [u8], st: State, mode: u8) -> State
-    ensures { λ r. ⌜ world (now (out .exit)) r ≡ lay mode (emit (word W.extern ∷ word W.c ∷ word W.extern-end ∷ [])) (world (now (out .entry)) st) ⌝ }
+fn c_abi(out: &mut [u8], st: &mut [usize; 4], mode: u8)
+    ensures { λ _. ⌜ at (now (out .exit)) (now (st .exit)) ≡ lay mode (emit (word W.extern ∷ word W.c ∷ word W.extern-end ∷ [])) (at (now (out .entry)) (now (st .entry))) ⌝ }
 {
-    let word = text::word(out, st, words::EXTERN, mode);
-    let shown = text::word(out, word, words::C, mode);
-    text::word(out, shown, words::EXTERN_END, mode)
+    text::word(out, st, words::EXTERN, mode);
+    text::word(out, st, words::C, mode);
+    text::word(out, st, words::EXTERN_END, mode);
 }
 
 // The ABI of a function pointer: 0 none, 1 `C`, 2 the name between two places.
-fn abi(s: &[u8], out: &mut [u8], st: State, which: u8, a: usize, b: usize, mode: u8) -> State
+fn abi(s: &[u8], out: &mut [u8], st: &mut [usize; 4], which: u8, a: usize, b: usize, mode: u8)
     requires { ⌜ (a ≤ b) × (b ≤ length (now s)) ⌝ }
-    ensures { λ r. ⌜ world (now (out .exit)) r ≡ lay mode (emit (g.whichAbi (now (s .entry)) which a b)) (world (now (out .entry)) st) ⌝ }
+    ensures { λ _. ⌜ at (now (out .exit)) (now (st .exit)) ≡ lay mode (emit (g.whichAbi (now (s .entry)) which a b)) (at (now (out .entry)) (now (st .entry))) ⌝ }
 {
     if which == 0 {
-        return st;
+        return;
     }
     if which == 1 {
-        return c_abi(out, st, mode);
+        c_abi(out, st, mode);
+        return;
     }
-    named_abi(s, out, st, a, b, mode)
+    named_abi(s, out, st, a, b, mode);
 }
 
 // What stands before the parameters of a function pointer.
-pub fn head(
+fn head(
     s: &[u8],
     out: &mut [u8],
-    st: State,
+    st: &mut [usize; 4],
     is_unsafe: bool,
     which: u8,
     a: usize,
     b: usize,
     mode: u8,
-) -> State
+)
     requires { ⌜ (a ≤ b) × (b ≤ length (now s)) ⌝ }
-    ensures { λ r. ⌜ world (now (out .exit)) r ≡ lay mode (emit (g.headPieces (now (s .entry)) «is_unsafe» which a b)) (world (now (out .entry)) st) ⌝ }
+    ensures { λ _. ⌜ at (now (out .exit)) (now (st .exit)) ≡ lay mode (emit (g.headPieces (now (s .entry)) «is_unsafe» which a b)) (at (now (out .entry)) (now (st .entry))) ⌝ }
 {
-    let safety = text::word_if(out, st, is_unsafe, words::UNSAFE, mode);
-    let shown = abi(s, out, safety, which, a, b, mode);
-    text::word(out, shown, words::FN, mode)
+    text::word_if(out, st, is_unsafe, words::UNSAFE, mode);
+    abi(s, out, st, which, a, b, mode);
+    text::word(out, st, words::FN, mode);
+}
+
+// The same, read: whether the parameters come behind it.
+pub fn signature(s: &[u8], out: &mut [u8], st: &mut [usize; 4], mode: u8) -> bool
+    ensures { λ r. ⌜ given r (now (out .exit)) (now (st .exit)) ≡ lays false mode (g.sigHead (now (s .entry))) (at (now (out .entry)) (now (st .entry))) ⌝ }
+{
+    if st[1] != 0 {
+        text::word(out, st, words::ASK, mode);
+        return false;
+    }
+    let Head::Of(is_unsafe, which, a, b, behind) = crate::read::function(s, st[0]) else {
+        text::invalid(out, st, mode);
+        return false;
+    };
+    go(st, behind);
+    head(s, out, st, is_unsafe, which, a, b, mode);
+    st[1] != 3
 }
 
 // An unsigned integer, with its type.
-pub fn uint(s: &[u8], out: &mut [u8], st: State, tag: u8, mode: u8) -> State
-    ensures { λ r. ⌜ world (now (out .exit)) r ≡ lay mode (g.uint (now (s .entry)) tag) (world (now (out .entry)) st) ⌝ }
+pub fn uint(s: &[u8], out: &mut [u8], st: &mut [usize; 4], tag: u8, mode: u8)
+    ensures { λ _. ⌜ at (now (out .exit)) (now (st .exit)) ≡ lay mode (g.uint (now (s .entry)) tag) (at (now (out .entry)) (now (st .entry))) ⌝ }
 {
-    if st.full {
-        return st;
+    if st[1] != 0 {
+        text::word(out, st, words::ASK, mode);
+        return;
     }
-    if st.error != 0 {
-        return text::word(out, st, words::ASK, mode);
-    }
-    let place = st.place;
+    let place = st[0];
     match hex_value(s, place) {
-        Hex::Small(v, next) => small(out, moved(st, next), v, tag, mode),
-        Hex::Big(e, next) => large(s, out, moved(st, next), place, e, tag, mode),
+        Hex::Small(v, next) => {
+            go(st, next);
+            small(out, st, v, tag, mode);
+        }
+        Hex::Big(e, next) => {
+            go(st, next);
+            large(s, out, st, place, e, tag, mode);
+        }
         Hex::Invalid => text::invalid(out, st, mode),
     }
 }
 
-fn small(out: &mut [u8], st: State, v: u64, tag: u8, mode: u8) -> State
-    ensures { λ r. ⌜ world (now (out .exit)) r ≡ lay mode (emit (g.smallPieces tag v)) (world (now (out .entry)) st) ⌝ }
+fn small(out: &mut [u8], st: &mut [usize; 4], v: u64, tag: u8, mode: u8)
+    ensures { λ _. ⌜ at (now (out .exit)) (now (st .exit)) ≡ lay mode (emit (g.smallPieces tag v)) (at (now (out .entry)) (now (st .entry))) ⌝ }
 {
-    let shown = text::number(out, st, v, mode);
-    text::kind(out, shown, tag, mode)
+    text::number(out, st, v, mode);
+    text::kind(out, st, tag, mode);
 }
 
 // An integer that does not fit 64 bits: its nibbles as they are.
-fn large(s: &[u8], out: &mut [u8], st: State, a: usize, e: usize, tag: u8, mode: u8) -> State
+fn large(s: &[u8], out: &mut [u8], st: &mut [usize; 4], a: usize, e: usize, tag: u8, mode: u8)
     requires { ⌜ (a ≤ e) × (e ≤ length (now s)) ⌝ }
-    ensures { λ r. ⌜ world (now (out .exit)) r ≡ lay mode (emit (g.largePieces (now (s .entry)) tag a e)) (world (now (out .entry)) st) ⌝ }
+    ensures { λ _. ⌜ at (now (out .exit)) (now (st .exit)) ≡ lay mode (emit (g.largePieces (now (s .entry)) tag a e)) (at (now (out .entry)) (now (st .entry))) ⌝ }
 {
-    let word = text::word(out, st, words::HEX, mode);
-    let shown = text::run(out, word, &s[a..e], mode);
-    text::kind(out, shown, tag, mode)
+    text::word(out, st, words::HEX, mode);
+    text::run(out, st, &s[a..e], mode);
+    text::kind(out, st, tag, mode);
 }
 
 // A signed integer, with its type.
-pub fn int(
-    s: &[u8],
-    out: &mut [u8],
-    place: usize,
-    damaged: bool,
-    written: usize,
-    tag: u8,
-    mode: u8,
-) -> State
-    ensures { λ r. ⌜ world (now (out .exit)) r ≡ lay mode (g.int (now (s .entry)) tag) (world (now (out .entry)) (good place damaged written)) ⌝ }
+pub fn int(s: &[u8], out: &mut [u8], st: &mut [usize; 4], tag: u8, mode: u8)
+    requires { ⌜ Going (stateOf (now st)) ⌝ }
+    ensures { λ _. ⌜ at (now (out .exit)) (now (st .exit)) ≡ lay mode (g.int (now (s .entry)) tag) (at (now (out .entry)) (now (st .entry))) ⌝ }
 {
+    let place = st[0];
     let behind = eat(s, place, b'n');
     if behind == place {
-        return uint(s, out, plain(place, damaged, written), tag, mode);
+        uint(s, out, st, tag, mode);
+        return;
     }
-    let sign = text::word(out, plain(behind, damaged, written), words::MINUS, mode);
-    uint(s, out, sign, tag, mode)
+    go(st, behind);
+    text::word(out, st, words::MINUS, mode);
+    uint(s, out, st, tag, mode);
 }
 
 fn is_unsigned(c: u8) -> bool
@@ -461,44 +534,38 @@ fn is_signed(c: u8) -> bool
     }
 }
 
-// An integer behind the letter of its type, which stands at the place.
-pub fn integer(
-    s: &[u8],
-    out: &mut [u8],
-    place: usize,
-    behind: usize,
-    damaged: bool,
-    written: usize,
-    tag: u8,
-    mode: u8,
-) -> State
-    ensures { λ r. ⌜ world (now (out .exit)) r ≡ lay mode (g.integerAt (now (s .entry)) tag behind) (world (now (out .entry)) (good place damaged written)) ⌝ }
+// An integer, by the letter of its type.
+pub fn integer(s: &[u8], out: &mut [u8], st: &mut [usize; 4], mode: u8)
+    requires { ⌜ Going (stateOf (now st)) ⌝ }
+    ensures { λ _. ⌜ at (now (out .exit)) (now (st .exit)) ≡ lay mode (g.integerAt (now (s .entry))) (at (now (out .entry)) (now (st .entry))) ⌝ }
 {
-    let unsigned = is_unsigned(tag);
+    let t = look(s, st[0]);
+    let letter = t.byte;
+    let unsigned = is_unsigned(letter);
     if unsigned {
-        return uint(s, out, plain(behind, damaged, written), tag, mode);
+        go(st, t.behind);
+        uint(s, out, st, letter, mode);
+        return;
     }
-    let signed = is_signed(tag);
+    let signed = is_signed(letter);
     if signed {
-        return int(s, out, behind, damaged, written, tag, mode);
+        go(st, t.behind);
+        int(s, out, st, letter, mode);
+        return;
     }
-    text::invalid(out, plain(place, damaged, written), mode)
+    text::invalid(out, st, mode);
 }
 
-pub fn boolean(
-    s: &[u8],
-    out: &mut [u8],
-    place: usize,
-    damaged: bool,
-    written: usize,
-    mode: u8,
-) -> State
-    ensures { λ r. ⌜ world (now (out .exit)) r ≡ lay mode (g.boolean (now (s .entry))) (world (now (out .entry)) (good place damaged written)) ⌝ }
+pub fn boolean(s: &[u8], out: &mut [u8], st: &mut [usize; 4], mode: u8)
+    requires { ⌜ Going (stateOf (now st)) ⌝ }
+    ensures { λ _. ⌜ at (now (out .exit)) (now (st .exit)) ≡ lay mode (g.boolean (now (s .entry))) (at (now (out .entry)) (now (st .entry))) ⌝ }
 {
-    let crate::read::Flag::Of(is, next) = crate::read::boolean(s, place) else {
-        return text::invalid(out, plain(place, damaged, written), mode);
+    let crate::read::Flag::Of(is, next) = crate::read::boolean(s, st[0]) else {
+        text::invalid(out, st, mode);
+        return;
     };
-    text::word(out, plain(next, damaged, written), bool_word(is), mode)
+    go(st, next);
+    text::word(out, st, bool_word(is), mode);
 }
 
 fn bool_word(is: bool) -> usize
@@ -507,43 +574,39 @@ fn bool_word(is: bool) -> usize
     if is { words::TRUE } else { words::FALSE }
 }
 
-pub fn character(
-    s: &[u8],
-    out: &mut [u8],
-    place: usize,
-    damaged: bool,
-    written: usize,
-    mode: u8,
-) -> State
-    ensures { λ r. ⌜ world (now (out .exit)) r ≡ lay mode (g.character (now (s .entry))) (world (now (out .entry)) (good place damaged written)) ⌝ }
+pub fn character(s: &[u8], out: &mut [u8], st: &mut [usize; 4], mode: u8)
+    requires { ⌜ Going (stateOf (now st)) ⌝ }
+    ensures { λ _. ⌜ at (now (out .exit)) (now (st .exit)) ≡ lay mode (g.character (now (s .entry))) (at (now (out .entry)) (now (st .entry))) ⌝ }
 {
-    let Num::Value(v, next) = crate::read::character(s, place) else {
-        return text::invalid(out, plain(place, damaged, written), mode);
+    let Num::Value(v, next) = crate::read::character(s, st[0]) else {
+        text::invalid(out, st, mode);
+        return;
     };
-    text::quoted_char(out, plain(next, damaged, written), v as u32, mode)
+    go(st, next);
+    text::quoted_char(out, st, v as u32, mode);
 }
 
 // A string's characters in quotes.
-pub fn literal(s: &[u8], out: &mut [u8], st: State, mode: u8) -> State
-    ensures { λ r. ⌜ world (now (out .exit)) r ≡ lay mode (g.literal (now (s .entry))) (world (now (out .entry)) st) ⌝ }
+pub fn literal(s: &[u8], out: &mut [u8], st: &mut [usize; 4], mode: u8)
+    ensures { λ _. ⌜ at (now (out .exit)) (now (st .exit)) ≡ lay mode (g.literal (now (s .entry))) (at (now (out .entry)) (now (st .entry))) ⌝ }
 {
-    if st.full {
-        return st;
+    if st[1] != 0 {
+        text::word(out, st, words::ASK, mode);
+        return;
     }
-    if st.error != 0 {
-        return text::word(out, st, words::ASK, mode);
-    }
-    let place = st.place;
+    let place = st[0];
     let Literal::Of(e, next) = crate::read::string(s, place) else {
-        return text::invalid(out, st, mode);
+        text::invalid(out, st, mode);
+        return;
     };
-    text::quoted_text(out, moved(st, next), &s[place..e], mode)
+    go(st, next);
+    text::quoted_text(out, st, &s[place..e], mode);
 }
 
 // A string that no reference stands before.
-pub fn unsized_literal(s: &[u8], out: &mut [u8], st: State, mode: u8) -> State
-    ensures { λ r. ⌜ world (now (out .exit)) r ≡ lay mode (g.unsizedLiteral (now (s .entry))) (world (now (out .entry)) st) ⌝ }
+pub fn unsized_literal(s: &[u8], out: &mut [u8], st: &mut [usize; 4], mode: u8)
+    ensures { λ _. ⌜ at (now (out .exit)) (now (st .exit)) ≡ lay mode (g.unsizedLiteral (now (s .entry))) (at (now (out .entry)) (now (st .entry))) ⌝ }
 {
-    let star = text::word(out, st, words::STAR, mode);
-    literal(s, out, star, mode)
+    text::word(out, st, words::STAR, mode);
+    literal(s, out, st, mode);
 }

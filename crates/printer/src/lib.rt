@@ -1,5 +1,6 @@
-// The printer: the Rust's `Printer` (port order 6). The state by value, the leaves that read and print, and the cycle.
+// The printer: the Rust's `Printer` (port order 6). The state that is lent to it, the leaves that read and print, and the cycle.
 pub mod cycle;
+pub mod kinds;
 pub mod leaf;
 pub mod read;
 pub mod state;

@@ -12,7 +12,38 @@ use parser::number::hex_nibbles;
 use parser::number::integer_62;
 use parser::number::opt_integer_62;
 ghost use mathlib.Core.Path.{_≡_};
-ghost use Rattle.printer.specs.Readings.{letterAt, namedAt, lifeAt, abiAt, behindUnsafe, headAt, flagAt, scalarAt, literalAt};
+ghost use Rattle.printer.specs.Readings.{tagAt, markAt, letterAt, namedAt, lifeAt, abiAt, behindUnsafe, headAt, flagAt, scalarAt, literalAt};
+
+// The byte at a place, 0 past the end, and the place behind it.
+pub struct Tag {
+    pub byte: u8,
+    pub behind: usize,
+}
+
+pub fn look(s: &[u8], at: usize) -> Tag
+    ensures { λ r. ⌜ r ≡ tagAt (now (s .entry)) at ⌝ }
+{
+    if at < s.len() {
+        return Tag {
+            byte: s[at],
+            behind: at + 1,
+        };
+    }
+    Tag {
+        byte: 0,
+        behind: at,
+    }
+}
+
+// The place behind the `e` of a string that stands behind a tag `R`; the place itself where none does.
+pub fn string_mark(s: &[u8], at: usize, tag: u8) -> usize
+    ensures { λ r. ⌜ r ≡ markAt (now (s .entry)) at tag ⌝ }
+{
+    if tag == b'R' {
+        return eat(s, at, b'e');
+    }
+    at
+}
 
 // A namespace: the letter of a special one, 0 for another.
 pub enum Letter {

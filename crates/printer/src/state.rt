@@ -1,105 +1,85 @@
-// The state of the printer, by value. Levels left, binder count and mode go beside it: no call changes them for its caller.
+// The state of the printer, lent to every function that prints. Levels left, binder count and mode go beside it: no call changes
+// them for its caller.
+//   st[0]: the place in the symbol
+//   st[1]: 0; or the error, 1 Invalid, 2 RecursedTooDeep; or 3 where the buffer is full: such a state says nothing else
+//   st[2]: 1 where a target was damaged
+//   st[3]: how many bytes are written
+// Each function here lends the array whole, which makes its length known.
+use pieces::put::Put;
 ghost use mathlib.Core.Path.{_≡_};
+ghost use mathlib.Core.Bool.{false};
 ghost use Prim.Native.Nat.{_+_, _<_, _^_};
-ghost use Rattle.printer.specs.Lay.{good, fullState, movedTo, failedAt, advancedBy, backTo};
+ghost use Rattle.printer.specs.Lay.{stateOf, fullState, movedTo, failedAt, advancedBy, sumOf, settledBy, hurtAt, backTo};
 
-pub struct State {
-    pub place: usize,
-    // 0, or one more than the error: 1 Invalid, 2 RecursedTooDeep.
-    pub error: u8,
-    pub damaged: bool,
-    pub written: usize,
-    // A state whose buffer is full says nothing else.
-    pub full: bool,
-}
-
-// A state, and how many elements a list has.
-pub struct Counted {
-    pub st: State,
-    pub count: usize,
-}
-
-// A state, and whether something holds: a path's generics were left open; a name was read.
-pub struct Told {
-    pub st: State,
-    pub is: bool,
-}
-
-// The state with no error and room.
-pub fn plain(place: usize, damaged: bool, written: usize) -> State
-    ensures { λ r. ⌜ r ≡ good place damaged written ⌝ }
+// Another place.
+pub fn go(st: &mut [usize; 4], place: usize)
+    ensures { λ _. ⌜ stateOf (now (st .exit)) ≡ movedTo place (stateOf (now (st .entry))) ⌝ }
 {
-    State {
-        place,
-        error: 0,
-        damaged,
-        written,
-        full: false,
+    let all = &mut st[..];
+    all[0] = place;
+}
+
+// An error, where there is room.
+pub fn fail(st: &mut [usize; 4], error: usize)
+    requires { ⌜ (stateOf (now st) .full ≡ false) × (error < 3) ⌝ }
+    ensures { λ _. ⌜ stateOf (now (st .exit)) ≡ failedAt error (stateOf (now (st .entry))) ⌝ }
+{
+    let all = &mut st[..];
+    all[1] = error;
+}
+
+// The buffer is full.
+fn fill(st: &mut [usize; 4])
+    ensures { λ _. ⌜ stateOf (now (st .exit)) ≡ fullState ⌝ }
+{
+    let all = &mut st[..];
+    all[0] = 0;
+    all[1] = 3;
+    all[2] = 0;
+    all[3] = 0;
+}
+
+// Bytes more are written.
+fn advance(st: &mut [usize; 4], n: usize)
+    requires { ⌜ stateOf (now st) .written + n < 2 ^ 64 ⌝ }
+    ensures { λ _. ⌜ stateOf (now (st .exit)) ≡ advancedBy n (stateOf (now (st .entry))) ⌝ }
+{
+    let all = &mut st[..];
+    let w = all[3];
+    all[3] = w + n;
+}
+
+// After a piece: as many bytes more are written, or the buffer is full.
+pub fn settle(st: &mut [usize; 4], p: Put)
+    requires { ⌜ sumOf p (stateOf (now st)) < 2 ^ 64 ⌝ }
+    ensures { λ _. ⌜ stateOf (now (st .exit)) ≡ settledBy p (stateOf (now (st .entry))) ⌝ }
+{
+    match p {
+        Put::Done(n) => advance(st, n),
+        Put::NoRoom => fill(st),
     }
 }
 
-// The state of a buffer that is full.
-pub fn at_end() -> State
-    ensures { λ r. ⌜ r ≡ fullState ⌝ }
+// At another place, with no error, and damaged.
+fn hurt(st: &mut [usize; 4], place: usize)
+    ensures { λ _. ⌜ stateOf (now (st .exit)) ≡ hurtAt place (stateOf (now (st .entry))) ⌝ }
 {
-    State {
-        place: 0,
-        error: 0,
-        damaged: false,
-        written: 0,
-        full: true,
-    }
+    let all = &mut st[..];
+    all[0] = place;
+    all[1] = 0;
+    all[2] = 1;
 }
 
-// The state at another place.
-pub fn moved(st: State, place: usize) -> State
-    ensures { λ r. ⌜ r ≡ movedTo place st ⌝ }
+// Behind a target, at another place: an error is damage. Unless the buffer is full.
+pub fn back_to(st: &mut [usize; 4], place: usize)
+    ensures { λ _. ⌜ stateOf (now (st .exit)) ≡ backTo place (stateOf (now (st .entry))) ⌝ }
 {
-    State {
-        place,
-        error: st.error,
-        damaged: st.damaged,
-        written: st.written,
-        full: st.full,
+    if st[1] == 3 {
+        return;
     }
-}
-
-// The state with an error.
-pub fn failed(st: State, error: u8) -> State
-    ensures { λ r. ⌜ r ≡ failedAt error st ⌝ }
-{
-    State {
-        place: st.place,
-        error,
-        damaged: st.damaged,
-        written: st.written,
-        full: st.full,
+    if st[1] == 0 {
+        go(st, place);
+        return;
     }
-}
-
-// The state with n bytes more written.
-pub fn advanced(st: State, n: usize) -> State
-    requires { ⌜ st .written + n < 2 ^ 64 ⌝ }
-    ensures { λ r. ⌜ r ≡ advancedBy n st ⌝ }
-{
-    State {
-        place: st.place,
-        error: st.error,
-        damaged: st.damaged,
-        written: st.written + n,
-        full: st.full,
-    }
-}
-
-// The state behind a target, at another place: an error is damage. Unless it is full.
-pub fn back_to(st: State, place: usize) -> State
-    ensures { λ r. ⌜ r ≡ backTo place st ⌝ }
-{
-    if st.full {
-        return st;
-    }
-    if st.error != 0 {
-        return plain(place, true, st.written);
-    }
-    plain(place, st.damaged, st.written)
+    hurt(st, place);
 }

@@ -1,6 +1,5 @@
 // The desk over the printer, in document 01's order: length, prefix, first byte, ASCII, first path, second path; then the text.
 use parser::bytes::peek;
-use printer::cycle::Kind;
 
 // How many bytes a symbol may have, and how many levels a reading may count.
 const MOST: usize = 4096;
@@ -63,10 +62,11 @@ fn upper(b: u8) -> bool {
 // A path read from a place, with nothing printed.
 fn path(s: &[u8], place: usize) -> Reached {
     let mut none = [0u8; 1];
-    let st = printer::cycle::on(s, &mut none, place, false, 0, Kind::Path, LEVELS, 0, 0);
-    let error = st.error;
+    let mut st = [place, 0, 0, 0];
+    printer::cycle::path(s, &mut none, &mut st, false, LEVELS, 0, 0);
+    let error = st[1];
     if error == 0 {
-        return Reached::At(st.place);
+        return Reached::At(st[0]);
     }
     if error == 1 {
         return Reached::Invalid;
@@ -117,14 +117,15 @@ pub fn check(symbol: &[u8]) -> Checked {
 
 // The first path's text.
 fn text(s: &[u8], mode: u8, out: &mut [u8]) -> Printed {
-    let st = printer::cycle::on(s, out, 0, false, 0, Kind::Value, LEVELS, 0, mode);
-    if st.full {
+    let mut st = [0usize, 0, 0, 0];
+    printer::cycle::path(s, out, &mut st, true, LEVELS, 0, mode);
+    if st[1] == 3 {
         return Printed::NoRoom;
     }
-    if st.error != 0 {
-        return Printed::Done(st.written, true);
+    if st[1] != 0 {
+        return Printed::Done(st[3], true);
     }
-    Printed::Done(st.written, st.damaged)
+    Printed::Done(st[3], st[2] == 1)
 }
 
 fn behind(symbol: &[u8], skipped: usize, mode: u8, out: &mut [u8]) -> Printed {

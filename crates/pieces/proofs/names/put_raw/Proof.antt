@@ -1,11 +1,15 @@
 -- `pieces::names::put_raw` meets its contract. Assumes nothing.
 use Rattle.pieces.specs.Names.{rawName}
+use Rattle.pieces.specs.Words.{ascii}
 use Rattle.pieces.proofs.WritingLaws.{piece-laws}
 use Rattle.pieces.proofs.names.put_raw.Statement.{statement}
 use Rattle.pieces.proofs.names.put_raw.Tie as tie
 
-put-word-requires : tie.Need-put-word-requires
-put-word-requires c κs = search piece-laws
+slice-aggregate-put-run : tie.Need-slice-aggregate-put-run
+slice-aggregate-put-run c = search piece-laws
+
+put-run-requires : tie.Need-put-run-requires
+put-run-requires c κs = search piece-laws
 
 enum-known-a : tie.Need-enum-known-a
 enum-known-a c = search piece-laws
@@ -17,7 +21,7 @@ same-length : tie.Need-same-length
 same-length c = search piece-laws
 
 returns : tie.Need-returns
-unfolding rawName
+unfolding rawName ascii
 returns c = search piece-laws
 
 sub-put-parts : tie.Need-sub-put-parts
@@ -42,24 +46,25 @@ same-length-2 : tie.Need-same-length-2
 same-length-2 c = search piece-laws
 
 returns-2 : tie.Need-returns-2
-unfolding rawName
+unfolding rawName ascii
 returns-2 c = search piece-laws
 
-add-t12 : tie.Need-add-t12
-add-t12 c = search piece-laws
+add-t15 : tie.Need-add-t15
+add-t15 c = search piece-laws
 
 same-length-3 : tie.Need-same-length-3
 same-length-3 c = search piece-laws
 
 returns-3 : tie.Need-returns-3
-unfolding rawName
+unfolding rawName ascii
 returns-3 c = search piece-laws
 
 pub put-raw-spec : {M : Type 1} → statement M
 put-raw-spec =
     tie.close
     (tie.spec
-    put-word-requires
+    slice-aggregate-put-run
+    put-run-requires
     enum-known-a
     enum-told
     same-length
@@ -72,6 +77,6 @@ put-raw-spec =
     enum-told-2
     same-length-2
     returns-2
-    add-t12
+    add-t15
     same-length-3
     returns-3)

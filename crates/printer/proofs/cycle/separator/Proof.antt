@@ -19,21 +19,6 @@ enum-told-4 c = search kind-laws
 enum-told-5 : tie.Need-enum-told-5
 enum-told-5 c = search kind-laws
 
-enum-told-6 : tie.Need-enum-told-6
-enum-told-6 c = search kind-laws
-
-enum-told-7 : tie.Need-enum-told-7
-enum-told-7 c = search kind-laws
-
-enum-told-8 : tie.Need-enum-told-8
-enum-told-8 c = search kind-laws
-
-enum-told-9 : tie.Need-enum-told-9
-enum-told-9 c = search kind-laws
-
-enum-told-10 : tie.Need-enum-told-10
-enum-told-10 c = search kind-laws
-
 returns : tie.Need-returns
 unfolding g.sepOf
 returns c = search kind-laws
@@ -54,26 +39,6 @@ returns-5 : tie.Need-returns-5
 unfolding g.sepOf
 returns-5 c = search kind-laws
 
-returns-6 : tie.Need-returns-6
-unfolding g.sepOf
-returns-6 c = search kind-laws
-
-returns-7 : tie.Need-returns-7
-unfolding g.sepOf
-returns-7 c = search kind-laws
-
-returns-8 : tie.Need-returns-8
-unfolding g.sepOf
-returns-8 c = search kind-laws
-
-returns-9 : tie.Need-returns-9
-unfolding g.sepOf
-returns-9 c = search kind-laws
-
-returns-10 : tie.Need-returns-10
-unfolding g.sepOf
-returns-10 c = search kind-laws
-
 pub separator-spec : {M : Type 1} → statement M
 separator-spec =
     tie.close
@@ -83,18 +48,8 @@ separator-spec =
     enum-told-3
     enum-told-4
     enum-told-5
-    enum-told-6
-    enum-told-7
-    enum-told-8
-    enum-told-9
-    enum-told-10
     returns
     returns-2
     returns-3
     returns-4
-    returns-5
-    returns-6
-    returns-7
-    returns-8
-    returns-9
-    returns-10)
+    returns-5)

@@ -3,18 +3,16 @@ use Rattle.printer.proofs.LeafLaws.{Binding}
 use Prim.Native.Nat.{_-_}
 use lib.ListN.{length}
 use mathlib.Core.Path.{_≡_}
-use Rattle.printer.specs.Says.{emit}
-use Rattle.printer.specs.Lay.{world, lay}
-use Rattle.printer.specs.Model as g
+use Rattle.printer.specs.Lay.{at}
 use Rattle.printer.proofs.LeafLaws.{binder-laws}
 use Rattle.printer.proofs.leaf.binder.Statement.{statement}
 use Rattle.printer.proofs.leaf.binder.Tie as tie
 
 abbrev Inv-loop : tie.InvT-loop
-Inv-loop out₀ n count mode now-at₀ i₀ out now-at i = Binding mode count n i (world out₀ now-at₀) (world out now-at) × (n ≡ 0 → ⊥) × (length out ≡ length out₀)
+Inv-loop out₀ st₀ n count mode i₀ out st i = Binding mode count n i (at out₀ st₀) (at out st) × (n ≡ 0 → ⊥) × (length out ≡ length out₀)
 
 abbrev μ-loop : tie.MeasureT-loop
-μ-loop out₀ n count mode now-at₀ i₀ out now-at i = n - i
+μ-loop out₀ st₀ n count mode i₀ out st i = n - i
 
 returns : tie.Need-returns Inv-loop μ-loop
 returns c = search binder-laws
@@ -27,6 +25,9 @@ word-requires c κs = search binder-laws
 
 loop-holds : tie.Need-loop-holds Inv-loop μ-loop
 loop-holds c = search binder-laws
+
+element-copy-out-if3 : tie.Need-element-copy-out-if3 Inv-loop μ-loop
+element-copy-out-if3 c = search binder-laws
 
 same-length : tie.Need-same-length Inv-loop μ-loop
 same-length c = search binder-laws
@@ -65,6 +66,7 @@ binder-spec =
     returns-2
     word-requires
     loop-holds
+    element-copy-out-if3
     same-length
     returns-3
     one-life-requires

@@ -3,6 +3,9 @@ use Rattle.printer.proofs.LeafLaws.{literal-laws}
 use Rattle.printer.proofs.leaf.boolean.Statement.{statement}
 use Rattle.printer.proofs.leaf.boolean.Tie as tie
 
+element-copy-out-boolean : tie.Need-element-copy-out-boolean
+element-copy-out-boolean c = search literal-laws
+
 boolean-requires : tie.Need-boolean-requires
 boolean-requires c κs = search literal-laws
 
@@ -11,9 +14,6 @@ enum-known-is c = search literal-laws
 
 enum-told : tie.Need-enum-told
 enum-told c = search literal-laws
-
-plain-requires : tie.Need-plain-requires
-plain-requires c κs = search literal-laws
 
 invalid-requires : tie.Need-invalid-requires
 invalid-requires c κs = search literal-laws
@@ -24,8 +24,8 @@ same-length c = search literal-laws
 returns : tie.Need-returns
 returns c = search literal-laws
 
-plain-requires-2 : tie.Need-plain-requires-2
-plain-requires-2 c κs = search literal-laws
+go-requires : tie.Need-go-requires
+go-requires c κs = search literal-laws
 
 bool-word-requires : tie.Need-bool-word-requires
 bool-word-requires c κs = search literal-laws
@@ -43,14 +43,14 @@ pub boolean-spec : {M : Type 1} → statement M
 boolean-spec =
     tie.close
     (tie.spec
+    element-copy-out-boolean
     boolean-requires
     enum-known-is
     enum-told
-    plain-requires
     invalid-requires
     same-length
     returns
-    plain-requires-2
+    go-requires
     bool-word-requires
     word-requires
     same-length-2

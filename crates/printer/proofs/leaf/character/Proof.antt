@@ -3,6 +3,9 @@ use Rattle.printer.proofs.LeafLaws.{literal-laws}
 use Rattle.printer.proofs.leaf.character.Statement.{statement}
 use Rattle.printer.proofs.leaf.character.Tie as tie
 
+element-copy-out-character : tie.Need-element-copy-out-character
+element-copy-out-character c = search literal-laws
+
 character-requires : tie.Need-character-requires
 character-requires c κs = search literal-laws
 
@@ -11,9 +14,6 @@ enum-known-v c = search literal-laws
 
 enum-told : tie.Need-enum-told
 enum-told c = search literal-laws
-
-plain-requires : tie.Need-plain-requires
-plain-requires c κs = search literal-laws
 
 invalid-requires : tie.Need-invalid-requires
 invalid-requires c κs = search literal-laws
@@ -24,8 +24,8 @@ same-length c = search literal-laws
 returns : tie.Need-returns
 returns c = search literal-laws
 
-plain-requires-2 : tie.Need-plain-requires-2
-plain-requires-2 c κs = search literal-laws
+go-requires : tie.Need-go-requires
+go-requires c κs = search literal-laws
 
 cast-quoted-char : tie.Need-cast-quoted-char
 cast-quoted-char c = search literal-laws
@@ -43,14 +43,14 @@ pub character-spec : {M : Type 1} → statement M
 character-spec =
     tie.close
     (tie.spec
+    element-copy-out-character
     character-requires
     enum-known-v
     enum-told
-    plain-requires
     invalid-requires
     same-length
     returns
-    plain-requires-2
+    go-requires
     cast-quoted-char
     quoted-char-requires
     same-length-2

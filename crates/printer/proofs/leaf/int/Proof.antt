@@ -3,11 +3,11 @@ use Rattle.printer.proofs.LeafLaws.{int-laws}
 use Rattle.printer.proofs.leaf.int.Statement.{statement}
 use Rattle.printer.proofs.leaf.int.Tie as tie
 
+element-copy-out-place : tie.Need-element-copy-out-place
+element-copy-out-place c = search int-laws
+
 eat-requires : tie.Need-eat-requires
 eat-requires c κs = search int-laws
-
-plain-requires : tie.Need-plain-requires
-plain-requires c κs = search int-laws
 
 uint-requires : tie.Need-uint-requires
 uint-requires c κs = search int-laws
@@ -18,8 +18,8 @@ same-length c = search int-laws
 returns : tie.Need-returns
 returns c = search int-laws
 
-plain-requires-2 : tie.Need-plain-requires-2
-plain-requires-2 c κs = search int-laws
+go-requires : tie.Need-go-requires
+go-requires c κs = search int-laws
 
 word-requires : tie.Need-word-requires
 word-requires c κs = search int-laws
@@ -37,12 +37,12 @@ pub int-spec : {M : Type 1} → statement M
 int-spec =
     tie.close
     (tie.spec
+    element-copy-out-place
     eat-requires
-    plain-requires
     uint-requires
     same-length
     returns
-    plain-requires-2
+    go-requires
     word-requires
     uint-requires-2
     same-length-2

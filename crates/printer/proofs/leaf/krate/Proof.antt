@@ -3,6 +3,9 @@ use Rattle.printer.proofs.LeafLaws.{krate-laws}
 use Rattle.printer.proofs.leaf.krate.Statement.{statement}
 use Rattle.printer.proofs.leaf.krate.Tie as tie
 
+element-copy-out-numbered : tie.Need-element-copy-out-numbered
+element-copy-out-numbered c = search krate-laws
+
 numbered-requires : tie.Need-numbered-requires
 numbered-requires c κs = search krate-laws
 
@@ -11,9 +14,6 @@ enum-known-d c = search krate-laws
 
 enum-told : tie.Need-enum-told
 enum-told c = search krate-laws
-
-plain-requires : tie.Need-plain-requires
-plain-requires c κs = search krate-laws
 
 invalid-requires : tie.Need-invalid-requires
 invalid-requires c κs = search krate-laws
@@ -24,8 +24,8 @@ same-length c = search krate-laws
 returns : tie.Need-returns
 returns c = search krate-laws
 
-plain-requires-2 : tie.Need-plain-requires-2
-plain-requires-2 c κs = search krate-laws
+go-requires : tie.Need-go-requires
+go-requires c κs = search krate-laws
 
 name-requires : tie.Need-name-requires
 name-requires c κs = search krate-laws
@@ -43,14 +43,14 @@ pub krate-spec : {M : Type 1} → statement M
 krate-spec =
     tie.close
     (tie.spec
+    element-copy-out-numbered
     numbered-requires
     enum-known-d
     enum-told
-    plain-requires
     invalid-requires
     same-length
     returns
-    plain-requires-2
+    go-requires
     name-requires
     crate-number-requires
     same-length-2

@@ -3,6 +3,9 @@ use Rattle.printer.proofs.LeafLaws.{lifetime-laws}
 use Rattle.printer.proofs.leaf.lifetime.Statement.{statement}
 use Rattle.printer.proofs.leaf.lifetime.Tie as tie
 
+element-copy-out-integer-62 : tie.Need-element-copy-out-integer-62
+element-copy-out-integer-62 c = search lifetime-laws
+
 integer-62-requires : tie.Need-integer-62-requires
 integer-62-requires c κs = search lifetime-laws
 
@@ -11,9 +14,6 @@ enum-known-lt c = search lifetime-laws
 
 enum-told : tie.Need-enum-told
 enum-told c = search lifetime-laws
-
-plain-requires : tie.Need-plain-requires
-plain-requires c κs = search lifetime-laws
 
 invalid-requires : tie.Need-invalid-requires
 invalid-requires c κs = search lifetime-laws
@@ -24,8 +24,8 @@ same-length c = search lifetime-laws
 returns : tie.Need-returns
 returns c = search lifetime-laws
 
-plain-requires-2 : tie.Need-plain-requires-2
-plain-requires-2 c κs = search lifetime-laws
+go-requires : tie.Need-go-requires
+go-requires c κs = search lifetime-laws
 
 life-requires : tie.Need-life-requires
 life-requires c κs = search lifetime-laws
@@ -40,14 +40,14 @@ pub lifetime-spec : {M : Type 1} → statement M
 lifetime-spec =
     tie.close
     (tie.spec
+    element-copy-out-integer-62
     integer-62-requires
     enum-known-lt
     enum-told
-    plain-requires
     invalid-requires
     same-length
     returns
-    plain-requires-2
+    go-requires
     life-requires
     same-length-2
     returns-2)

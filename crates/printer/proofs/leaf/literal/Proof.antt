@@ -3,8 +3,8 @@ use Rattle.printer.proofs.LeafLaws.{literal-laws}
 use Rattle.printer.proofs.leaf.literal.Statement.{statement}
 use Rattle.printer.proofs.leaf.literal.Tie as tie
 
-returns : tie.Need-returns
-returns c = search literal-laws
+element-copy-out-if1 : tie.Need-element-copy-out-if1
+element-copy-out-if1 c = search literal-laws
 
 word-requires : tie.Need-word-requires
 word-requires c κs = search literal-laws
@@ -12,8 +12,11 @@ word-requires c κs = search literal-laws
 same-length : tie.Need-same-length
 same-length c = search literal-laws
 
-returns-2 : tie.Need-returns-2
-returns-2 c = search literal-laws
+returns : tie.Need-returns
+returns c = search literal-laws
+
+element-copy-out-place : tie.Need-element-copy-out-place
+element-copy-out-place c = search literal-laws
 
 string-requires : tie.Need-string-requires
 string-requires c κs = search literal-laws
@@ -30,11 +33,11 @@ invalid-requires c κs = search literal-laws
 same-length-2 : tie.Need-same-length-2
 same-length-2 c = search literal-laws
 
-returns-3 : tie.Need-returns-3
-returns-3 c = search literal-laws
+returns-2 : tie.Need-returns-2
+returns-2 c = search literal-laws
 
-moved-requires : tie.Need-moved-requires
-moved-requires c κs = search literal-laws
+go-requires : tie.Need-go-requires
+go-requires c κs = search literal-laws
 
 sub-quoted-text : tie.Need-sub-quoted-text
 sub-quoted-text c = search literal-laws
@@ -51,27 +54,28 @@ quoted-text-requires c κs = search literal-laws
 same-length-3 : tie.Need-same-length-3
 same-length-3 c = search literal-laws
 
-returns-4 : tie.Need-returns-4
-returns-4 c = search literal-laws
+returns-3 : tie.Need-returns-3
+returns-3 c = search literal-laws
 
 pub literal-spec : {M : Type 1} → statement M
 literal-spec =
     tie.close
     (tie.spec
-    returns
+    element-copy-out-if1
     word-requires
     same-length
-    returns-2
+    returns
+    element-copy-out-place
     string-requires
     enum-known-e
     enum-told
     invalid-requires
     same-length-2
-    returns-3
-    moved-requires
+    returns-2
+    go-requires
     sub-quoted-text
     part-quoted-text-start
     part-quoted-text-end
     quoted-text-requires
     same-length-3
-    returns-4)
+    returns-3)

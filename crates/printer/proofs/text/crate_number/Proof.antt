@@ -3,6 +3,9 @@ use Rattle.printer.proofs.TextLaws.{hash-laws}
 use Rattle.printer.proofs.text.crate_number.Statement.{statement}
 use Rattle.printer.proofs.text.crate_number.Tie as tie
 
+element-copy-out-if1 : tie.Need-element-copy-out-if1
+element-copy-out-if1 c = search hash-laws
+
 returns : tie.Need-returns
 returns c = search hash-laws
 
@@ -11,6 +14,9 @@ returns-2 c = search hash-laws
 
 returns-3 : tie.Need-returns-3
 returns-3 c = search hash-laws
+
+element-copy-out-free : tie.Need-element-copy-out-free
+element-copy-out-free c = search hash-laws
 
 free-requires : tie.Need-free-requires
 free-requires c κs = search hash-laws
@@ -27,14 +33,8 @@ part-put-hash-end c = search hash-laws
 put-hash-requires : tie.Need-put-hash-requires
 put-hash-requires c κs = search hash-laws
 
-enum-known-n : tie.Need-enum-known-n
-enum-known-n c = search hash-laws
-
-enum-told : tie.Need-enum-told
-enum-told c = search hash-laws
-
-at-end-requires : tie.Need-at-end-requires
-at-end-requires c κs = search hash-laws
+settle-requires : tie.Need-settle-requires
+settle-requires c κs = search hash-laws
 
 same-length : tie.Need-same-length
 same-length c = search hash-laws
@@ -42,32 +42,20 @@ same-length c = search hash-laws
 returns-4 : tie.Need-returns-4
 returns-4 c = search hash-laws
 
-advanced-requires : tie.Need-advanced-requires
-advanced-requires c κs = search hash-laws
-
-same-length-2 : tie.Need-same-length-2
-same-length-2 c = search hash-laws
-
-returns-5 : tie.Need-returns-5
-returns-5 c = search hash-laws
-
 pub crate-number-spec : {M : Type 1} → statement M
 crate-number-spec =
     tie.close
     (tie.spec
+    element-copy-out-if1
     returns
     returns-2
     returns-3
+    element-copy-out-free
     free-requires
     sub-put-hash
     part-put-hash-start
     part-put-hash-end
     put-hash-requires
-    enum-known-n
-    enum-told
-    at-end-requires
+    settle-requires
     same-length
-    returns-4
-    advanced-requires
-    same-length-2
-    returns-5)
+    returns-4)

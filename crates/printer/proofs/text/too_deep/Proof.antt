@@ -3,14 +3,17 @@ use Rattle.printer.proofs.TextLaws.{mark-laws}
 use Rattle.printer.proofs.text.too_deep.Statement.{statement}
 use Rattle.printer.proofs.text.too_deep.Tie as tie
 
+element-copy-out-if1 : tie.Need-element-copy-out-if1
+element-copy-out-if1 c = search mark-laws
+
 returns : tie.Need-returns
 returns c = search mark-laws
 
-failed-requires : tie.Need-failed-requires
-failed-requires c κs = search mark-laws
+fail-requires : tie.Need-fail-requires
+fail-requires c κs = search mark-laws
 
-word-requires : tie.Need-word-requires
-word-requires c κs = search mark-laws
+spell-requires : tie.Need-spell-requires
+spell-requires c κs = search mark-laws
 
 same-length : tie.Need-same-length
 same-length c = search mark-laws
@@ -19,4 +22,6 @@ returns-2 : tie.Need-returns-2
 returns-2 c = search mark-laws
 
 pub too-deep-spec : {M : Type 1} → statement M
-too-deep-spec = tie.close (tie.spec returns failed-requires word-requires same-length returns-2)
+too-deep-spec =
+    tie.close
+    (tie.spec element-copy-out-if1 returns fail-requires spell-requires same-length returns-2)

@@ -6,64 +6,14 @@ use Rattle.printer.proofs.text.word.Tie as tie
 returns : tie.Need-returns
 returns c = search piece-laws
 
-returns-2 : tie.Need-returns-2
-returns-2 c = search piece-laws
-
-free-requires : tie.Need-free-requires
-free-requires c κs = search piece-laws
-
-sub-put-word : tie.Need-sub-put-word
-sub-put-word c = search piece-laws
-
-part-put-word-start : tie.Need-part-put-word-start
-part-put-word-start c = search piece-laws
-
-part-put-word-end : tie.Need-part-put-word-end
-part-put-word-end c = search piece-laws
-
-put-word-requires : tie.Need-put-word-requires
-put-word-requires c κs = search piece-laws
-
-enum-known-n : tie.Need-enum-known-n
-enum-known-n c = search piece-laws
-
-enum-told : tie.Need-enum-told
-enum-told c = search piece-laws
-
-at-end-requires : tie.Need-at-end-requires
-at-end-requires c κs = search piece-laws
+spell-requires : tie.Need-spell-requires
+spell-requires c κs = search piece-laws
 
 same-length : tie.Need-same-length
 same-length c = search piece-laws
 
-returns-3 : tie.Need-returns-3
-returns-3 c = search piece-laws
-
-advanced-requires : tie.Need-advanced-requires
-advanced-requires c κs = search piece-laws
-
-same-length-2 : tie.Need-same-length-2
-same-length-2 c = search piece-laws
-
-returns-4 : tie.Need-returns-4
-returns-4 c = search piece-laws
+returns-2 : tie.Need-returns-2
+returns-2 c = search piece-laws
 
 pub word-spec : {M : Type 1} → statement M
-word-spec =
-    tie.close
-    (tie.spec
-    returns
-    returns-2
-    free-requires
-    sub-put-word
-    part-put-word-start
-    part-put-word-end
-    put-word-requires
-    enum-known-n
-    enum-told
-    at-end-requires
-    same-length
-    returns-3
-    advanced-requires
-    same-length-2
-    returns-4)
+word-spec = tie.close (tie.spec returns spell-requires same-length returns-2)
