@@ -125,7 +125,7 @@ fn text(s: &[u8], mode: u8, out: &mut [u8]) -> Printed {
     if st[1] != 0 {
         return Printed::Done(st[3], true);
     }
-    Printed::Done(st[3], st[2] == 1)
+    Printed::Done(st[3], st[2] != 0)
 }
 
 fn behind(symbol: &[u8], skipped: usize, mode: u8, out: &mut [u8]) -> Printed {
