@@ -1,6 +1,7 @@
 // The cycle: paths, generic arguments, types, trait objects, patterns and constants contain one another. Levels left fall from call to
 // call. A function with no `requires` goes by the state that it finds; one that asks for a state with no error and room is called only
 // where that has been looked at.
+// Names are two or three letters, since the prover keeps the cycle's proof under all of them joined; a comment says what each is.
 use crate::kinds::Item;
 use crate::kinds::Kind;
 use crate::leaf;
@@ -45,10 +46,11 @@ pub fn path(
         text::too_deep(out, st, mode);
         return;
     }
-    paths(s, out, st, value, left - 1, binder, mode);
+    pt(s, out, st, value, left - 1, binder, mode);
 }
 
-fn paths(
+// A path by its tag, with the level counted.
+fn pt(
     s: &[u8],
     out: &mut [u8],
     st: &mut [usize; 4],
@@ -69,7 +71,7 @@ fn paths(
         }
         b'N' => {
             go(st, t.behind);
-            nest(s, out, st, value, left, binder, mode);
+            nst(s, out, st, value, left, binder, mode);
         }
         b'M' | b'X' => {
             go(st, t.behind);
@@ -81,11 +83,11 @@ fn paths(
         }
         b'I' => {
             go(st, t.behind);
-            gens(s, out, st, value, left, binder, mode);
+            gns(s, out, st, value, left, binder, mode);
         }
         b'B' => {
             go(st, t.behind);
-            back(s, out, st, path_kind(value), left, binder, mode);
+            bk(s, out, st, path_kind(value), left, binder, mode);
         }
         _ => text::invalid(out, st, mode),
     }
@@ -104,7 +106,7 @@ fn const_kind(value: bool) -> Kind
 }
 
 // A path in a namespace.
-fn nest(
+fn nst(
     s: &[u8],
     out: &mut [u8],
     st: &mut [usize; 4],
@@ -166,6 +168,7 @@ fn slf(
     text::word(out, st, words::MORE, mode);
 }
 
+// ` as trait`, where there is one.
 fn trt(
     s: &[u8],
     out: &mut [u8],
@@ -184,7 +187,7 @@ fn trt(
 }
 
 // A path with generic arguments.
-fn gens(
+fn gns(
     s: &[u8],
     out: &mut [u8],
     st: &mut [usize; 4],
@@ -197,7 +200,7 @@ fn gens(
 {
     path(s, out, st, value, left, binder, mode);
     text::word(out, st, leaf::less_word(value), mode);
-    list(s, out, st, Item::Arg, left, binder, mode);
+    ls(s, out, st, Item::Arg, left, binder, mode);
     text::word(out, st, words::MORE, mode);
 }
 
@@ -225,15 +228,7 @@ fn arg(s: &[u8], out: &mut [u8], st: &mut [usize; 4], left: usize, binder: u64, 
 }
 
 // A back reference, behind its `B`.
-fn back(
-    s: &[u8],
-    out: &mut [u8],
-    st: &mut [usize; 4],
-    kind: Kind,
-    left: usize,
-    binder: u64,
-    mode: u8,
-)
+fn bk(s: &[u8], out: &mut [u8], st: &mut [usize; 4], kind: Kind, left: usize, binder: u64, mode: u8)
     requires { ⌜ Going (stateOf (now st)) ⌝ }
     ensures { λ _. ⌜ at (now (out .exit)) (now (st .exit)) ≡ lay mode (g.back (now (s .entry)) (g.level (now (s .entry)) left) kind (follows mode) binder) (at (now (out .entry)) (now (st .entry))) ⌝ }
 {
@@ -272,6 +267,7 @@ fn aim(
     back_to(st, place);
 }
 
+// A target, by its kind.
 fn see(
     s: &[u8],
     out: &mut [u8],
@@ -304,11 +300,11 @@ fn ty(s: &[u8], out: &mut [u8], st: &mut [usize; 4], left: usize, binder: u64, m
     let behind = eat(s, place, b'w');
     go(st, behind);
     text::word_if(out, st, behind != place, words::SPLAT, mode);
-    bare(s, out, st, left, binder, mode);
+    bar(s, out, st, left, binder, mode);
 }
 
 // A type: a basic one counts no level, any other one.
-fn bare(s: &[u8], out: &mut [u8], st: &mut [usize; 4], left: usize, binder: u64, mode: u8)
+fn bar(s: &[u8], out: &mut [u8], st: &mut [usize; 4], left: usize, binder: u64, mode: u8)
     ensures { λ _. ⌜ at (now (out .exit)) (now (st .exit)) ≡ lay mode ((g.level (now (s .entry)) left) .bare (follows mode) binder) (at (now (out .entry)) (now (st .entry))) ⌝ }
 {
     if st[1] != 0 {
@@ -330,6 +326,7 @@ fn bare(s: &[u8], out: &mut [u8], st: &mut [usize; 4], left: usize, binder: u64,
     tys(s, out, st, left - 1, binder, mode);
 }
 
+// A type that is no basic one by its tag, with the level counted.
 fn tys(s: &[u8], out: &mut [u8], st: &mut [usize; 4], left: usize, binder: u64, mode: u8)
     requires { ⌜ Going (stateOf (now st)) ⌝ }
     ensures { λ _. ⌜ at (now (out .exit)) (now (st .exit)) ≡ lay mode (g.typed (now (s .entry)) (g.level (now (s .entry)) left) (follows mode) binder) (at (now (out .entry)) (now (st .entry))) ⌝ }
@@ -339,11 +336,11 @@ fn tys(s: &[u8], out: &mut [u8], st: &mut [usize; 4], left: usize, binder: u64, 
     match b {
         b'R' => {
             go(st, t.behind);
-            refer(s, out, st, false, left, binder, mode);
+            bor(s, out, st, false, left, binder, mode);
         }
         b'Q' => {
             go(st, t.behind);
-            refer(s, out, st, true, left, binder, mode);
+            bor(s, out, st, true, left, binder, mode);
         }
         b'P' => {
             go(st, t.behind);
@@ -367,7 +364,7 @@ fn tys(s: &[u8], out: &mut [u8], st: &mut [usize; 4], left: usize, binder: u64, 
         }
         b'F' => {
             go(st, t.behind);
-            func(s, out, st, left, binder, mode);
+            fnp(s, out, st, left, binder, mode);
         }
         b'D' => {
             go(st, t.behind);
@@ -375,7 +372,7 @@ fn tys(s: &[u8], out: &mut [u8], st: &mut [usize; 4], left: usize, binder: u64, 
         }
         b'B' => {
             go(st, t.behind);
-            back(s, out, st, Kind::Ty, left, binder, mode);
+            bk(s, out, st, Kind::Ty, left, binder, mode);
         }
         b'W' => {
             go(st, t.behind);
@@ -398,7 +395,7 @@ fn nam(s: &[u8], out: &mut [u8], st: &mut [usize; 4], left: usize, binder: u64, 
 }
 
 // A reference: `&'a mut type`.
-fn refer(
+fn bor(
     s: &[u8],
     out: &mut [u8],
     st: &mut [usize; 4],
@@ -437,11 +434,12 @@ fn arr(
 {
     text::word(out, st, words::BRACKET, mode);
     ty(s, out, st, left, binder, mode);
-    size(s, out, st, sized, left, binder, mode);
+    sz(s, out, st, sized, left, binder, mode);
     text::word(out, st, words::BRACKET_END, mode);
 }
 
-fn size(
+// An array's length.
+fn sz(
     s: &[u8],
     out: &mut [u8],
     st: &mut [usize; 4],
@@ -471,13 +469,13 @@ fn tup(
     ensures { λ _. ⌜ at (now (out .exit)) (now (st .exit)) ≡ lay mode (g.tuple (now (s .entry)) (g.level (now (s .entry)) left) item (follows mode) binder) (at (now (out .entry)) (now (st .entry))) ⌝ }
 {
     text::word(out, st, words::PAREN, mode);
-    let count = list(s, out, st, item, left, binder, mode);
+    let count = ls(s, out, st, item, left, binder, mode);
     text::comma(out, st, count, mode);
     text::word(out, st, words::PAREN_END, mode);
 }
 
 // A function pointer: its binder counts for what follows.
-fn func(s: &[u8], out: &mut [u8], st: &mut [usize; 4], left: usize, binder: u64, mode: u8)
+fn fnp(s: &[u8], out: &mut [u8], st: &mut [usize; 4], left: usize, binder: u64, mode: u8)
     requires { ⌜ Going (stateOf (now st)) ⌝ }
     ensures { λ _. ⌜ at (now (out .exit)) (now (st .exit)) ≡ lay mode (g.function (now (s .entry)) (g.level (now (s .entry)) left) (follows mode) binder) (at (now (out .entry)) (now (st .entry))) ⌝ }
 {
@@ -489,14 +487,15 @@ fn func(s: &[u8], out: &mut [u8], st: &mut [usize; 4], left: usize, binder: u64,
     leaf::binder(out, st, n, binder, mode);
     let more = leaf::signature(s, out, st, mode);
     if more {
-        args(s, out, st, left, leaf::held(binder, n), mode);
+        par(s, out, st, left, leaf::held(binder, n), mode);
     }
 }
 
-fn args(s: &[u8], out: &mut [u8], st: &mut [usize; 4], left: usize, binder: u64, mode: u8)
+// The parameters of a function pointer, and its result.
+fn par(s: &[u8], out: &mut [u8], st: &mut [usize; 4], left: usize, binder: u64, mode: u8)
     ensures { λ _. ⌜ at (now (out .exit)) (now (st .exit)) ≡ lay mode (g.parameters (now (s .entry)) (g.level (now (s .entry)) left) (follows mode) binder) (at (now (out .entry)) (now (st .entry))) ⌝ }
 {
-    list(s, out, st, Item::Ty, left, binder, mode);
+    ls(s, out, st, Item::Ty, left, binder, mode);
     text::word(out, st, words::PAREN_END, mode);
     ret(s, out, st, left, binder, mode);
 }
@@ -518,6 +517,7 @@ fn ret(s: &[u8], out: &mut [u8], st: &mut [usize; 4], left: usize, binder: u64, 
     arw(s, out, st, left, binder, mode);
 }
 
+// ` -> type`
 fn arw(s: &[u8], out: &mut [u8], st: &mut [usize; 4], left: usize, binder: u64, mode: u8)
     ensures { λ _. ⌜ at (now (out .exit)) (now (st .exit)) ≡ lay mode (g.arrow (now (s .entry)) (g.level (now (s .entry)) left) (follows mode) binder) (at (now (out .entry)) (now (st .entry))) ⌝ }
 {
@@ -530,12 +530,12 @@ fn obj(s: &[u8], out: &mut [u8], st: &mut [usize; 4], left: usize, binder: u64, 
     ensures { λ _. ⌜ at (now (out .exit)) (now (st .exit)) ≡ lay mode (g.object (now (s .entry)) (g.level (now (s .entry)) left) (follows mode) binder) (at (now (out .entry)) (now (st .entry))) ⌝ }
 {
     text::word(out, st, words::DYN, mode);
-    dyns(s, out, st, left, binder, mode);
+    trs(s, out, st, left, binder, mode);
     leaf::bound(s, out, st, binder, mode);
 }
 
 // Its traits: their binder does not count behind them.
-fn dyns(s: &[u8], out: &mut [u8], st: &mut [usize; 4], left: usize, binder: u64, mode: u8)
+fn trs(s: &[u8], out: &mut [u8], st: &mut [usize; 4], left: usize, binder: u64, mode: u8)
     ensures { λ _. ⌜ at (now (out .exit)) (now (st .exit)) ≡ lay mode (g.traits (now (s .entry)) (g.level (now (s .entry)) left) (follows mode) binder) (at (now (out .entry)) (now (st .entry))) ⌝ }
 {
     if st[1] != 0 {
@@ -548,7 +548,7 @@ fn dyns(s: &[u8], out: &mut [u8], st: &mut [usize; 4], left: usize, binder: u64,
     };
     go(st, behind);
     leaf::binder(out, st, n, binder, mode);
-    list(s, out, st, Item::Trait, left, leaf::held(binder, n), mode);
+    ls(s, out, st, Item::Trait, left, leaf::held(binder, n), mode);
 }
 
 // `type is pattern`
@@ -561,7 +561,7 @@ fn sub(s: &[u8], out: &mut [u8], st: &mut [usize; 4], left: usize, binder: u64, 
 }
 
 // A path whose generics may be left open for what is bound behind it: whether they are.
-fn opn(s: &[u8], out: &mut [u8], st: &mut [usize; 4], left: usize, binder: u64, mode: u8) -> bool
+fn op(s: &[u8], out: &mut [u8], st: &mut [usize; 4], left: usize, binder: u64, mode: u8) -> bool
     requires { ⌜ Going (stateOf (now st)) ⌝ }
     ensures { λ r. ⌜ given r (now (out .exit)) (now (st .exit)) ≡ lays false mode (g.openPath (now (s .entry)) (g.level (now (s .entry)) left) (follows mode) binder) (at (now (out .entry)) (now (st .entry))) ⌝ }
 {
@@ -570,11 +570,11 @@ fn opn(s: &[u8], out: &mut [u8], st: &mut [usize; 4], left: usize, binder: u64, 
     match b {
         b'B' => {
             go(st, t.behind);
-            obk(s, out, st, left, binder, mode)
+            ob(s, out, st, left, binder, mode)
         }
         b'I' => {
             go(st, t.behind);
-            ogen(s, out, st, left, binder, mode)
+            og(s, out, st, left, binder, mode)
         }
         _ => {
             path(s, out, st, false, left, binder, mode);
@@ -583,16 +583,18 @@ fn opn(s: &[u8], out: &mut [u8], st: &mut [usize; 4], left: usize, binder: u64, 
     }
 }
 
-fn ogen(s: &[u8], out: &mut [u8], st: &mut [usize; 4], left: usize, binder: u64, mode: u8) -> bool
+// An open path with generics: they stay open.
+fn og(s: &[u8], out: &mut [u8], st: &mut [usize; 4], left: usize, binder: u64, mode: u8) -> bool
     ensures { λ r. ⌜ given r (now (out .exit)) (now (st .exit)) ≡ lays false mode (g.openGeneric (now (s .entry)) (g.level (now (s .entry)) left) (follows mode) binder) (at (now (out .entry)) (now (st .entry))) ⌝ }
 {
     path(s, out, st, false, left, binder, mode);
     text::word(out, st, words::LESS, mode);
-    list(s, out, st, Item::Arg, left, binder, mode);
+    ls(s, out, st, Item::Arg, left, binder, mode);
     st[1] != 3
 }
 
-fn obk(s: &[u8], out: &mut [u8], st: &mut [usize; 4], left: usize, binder: u64, mode: u8) -> bool
+// An open path behind its `B`.
+fn ob(s: &[u8], out: &mut [u8], st: &mut [usize; 4], left: usize, binder: u64, mode: u8) -> bool
     requires { ⌜ Going (stateOf (now st)) ⌝ }
     ensures { λ r. ⌜ given r (now (out .exit)) (now (st .exit)) ≡ lays false mode (g.openBack (now (s .entry)) (g.level (now (s .entry)) left) (follows mode) binder) (at (now (out .entry)) (now (st .entry))) ⌝ }
 {
@@ -601,10 +603,11 @@ fn obk(s: &[u8], out: &mut [u8], st: &mut [usize; 4], left: usize, binder: u64, 
         return false;
     };
     go(st, behind);
-    oaim(s, out, st, v, left, binder, mode)
+    oa(s, out, st, v, left, binder, mode)
 }
 
-fn oaim(
+// What it leads to, with the level counted.
+fn oa(
     s: &[u8],
     out: &mut [u8],
     st: &mut [usize; 4],
@@ -625,25 +628,25 @@ fn oaim(
     }
     let place = st[0];
     go(st, v);
-    let is_open = opn(s, out, st, left - 1, binder, mode);
+    let is_open = op(s, out, st, left - 1, binder, mode);
     back_to(st, place);
     is_open
 }
 
 // A trait of a trait object, with what is bound to its associated types.
-fn bind(s: &[u8], out: &mut [u8], st: &mut [usize; 4], left: usize, binder: u64, mode: u8)
+fn dt(s: &[u8], out: &mut [u8], st: &mut [usize; 4], left: usize, binder: u64, mode: u8)
     ensures { λ _. ⌜ at (now (out .exit)) (now (st .exit)) ≡ lay mode (g.dynTrait (now (s .entry)) (g.level (now (s .entry)) left) (follows mode) binder) (at (now (out .entry)) (now (st .entry))) ⌝ }
 {
     if st[1] != 0 {
         text::word(out, st, words::ASK, mode);
         return;
     }
-    let is_open = opn(s, out, st, left, binder, mode);
-    binds(s, out, st, is_open, left, binder, mode);
+    let is_open = op(s, out, st, left, binder, mode);
+    bs(s, out, st, is_open, left, binder, mode);
 }
 
 // The bindings, and the end of the generics where they are open. There are no more than the symbol has bytes.
-fn binds(
+fn bs(
     s: &[u8],
     out: &mut [u8],
     st: &mut [usize; 4],
@@ -672,7 +675,7 @@ fn binds(
             return;
         }
         go(st, behind);
-        let named = bond(s, out, st, opened, left, binder, mode);
+        let named = bd(s, out, st, opened, left, binder, mode);
         if !named {
             return;
         }
@@ -682,7 +685,7 @@ fn binds(
 }
 
 // One binding behind its `p`: whether its name was read.
-fn bond(
+fn bd(
     s: &[u8],
     out: &mut [u8],
     st: &mut [usize; 4],
@@ -694,10 +697,11 @@ fn bond(
     ensures { λ r. ⌜ given r (now (out .exit)) (now (st .exit)) ≡ lays false mode (g.binding (now (s .entry)) (g.level (now (s .entry)) left) opened (follows mode) binder) (at (now (out .entry)) (now (st .entry))) ⌝ }
 {
     text::word(out, st, leaf::bind_word(opened), mode);
-    bound(s, out, st, left, binder, mode)
+    bn(s, out, st, left, binder, mode)
 }
 
-fn bound(s: &[u8], out: &mut [u8], st: &mut [usize; 4], left: usize, binder: u64, mode: u8) -> bool
+// Its name, and what is bound to it.
+fn bn(s: &[u8], out: &mut [u8], st: &mut [usize; 4], left: usize, binder: u64, mode: u8) -> bool
     ensures { λ r. ⌜ given r (now (out .exit)) (now (st .exit)) ≡ lays false mode (g.boundName (now (s .entry)) (g.level (now (s .entry)) left) (follows mode) binder) (at (now (out .entry)) (now (st .entry))) ⌝ }
 {
     if st[1] != 0 {
@@ -710,12 +714,12 @@ fn bound(s: &[u8], out: &mut [u8], st: &mut [usize; 4], left: usize, binder: u64
     };
     go(st, e);
     leaf::bind_name(s, out, st, a, b, c, e, mode);
-    onto(s, out, st, left, binder, mode);
+    bt(s, out, st, left, binder, mode);
     st[1] != 3
 }
 
 // What is bound: a constant or a type.
-fn onto(s: &[u8], out: &mut [u8], st: &mut [usize; 4], left: usize, binder: u64, mode: u8)
+fn bt(s: &[u8], out: &mut [u8], st: &mut [usize; 4], left: usize, binder: u64, mode: u8)
     ensures { λ _. ⌜ at (now (out .exit)) (now (st .exit)) ≡ lay mode (g.boundTo (now (s .entry)) (g.level (now (s .entry)) left) (follows mode) binder) (at (now (out .entry)) (now (st .entry))) ⌝ }
 {
     if st[1] != 0 {
@@ -759,6 +763,7 @@ fn pat(s: &[u8], out: &mut [u8], st: &mut [usize; 4], left: usize, binder: u64, 
     }
 }
 
+// A range of constants.
 fn rng(s: &[u8], out: &mut [u8], st: &mut [usize; 4], left: usize, binder: u64, mode: u8)
     ensures { λ _. ⌜ at (now (out .exit)) (now (st .exit)) ≡ lay mode (g.range (now (s .entry)) (g.level (now (s .entry)) left) (follows mode) binder) (at (now (out .entry)) (now (st .entry))) ⌝ }
 {
@@ -777,11 +782,11 @@ fn ors(s: &[u8], out: &mut [u8], st: &mut [usize; 4], left: usize, binder: u64, 
         return;
     }
     pat(s, out, st, left - 1, binder, mode);
-    alts(s, out, st, left - 1, binder, mode);
+    alt(s, out, st, left - 1, binder, mode);
 }
 
 // The patterns behind the first: an error ends them with the marker, once more.
-fn alts(s: &[u8], out: &mut [u8], st: &mut [usize; 4], left: usize, binder: u64, mode: u8)
+fn alt(s: &[u8], out: &mut [u8], st: &mut [usize; 4], left: usize, binder: u64, mode: u8)
     ensures { λ _. ⌜ at (now (out .exit)) (now (st .exit)) ≡ lay mode (g.alternatives (now (s .entry)) (g.level (now (s .entry)) left) (length (now (s .entry))) (follows mode) binder) (at (now (out .entry)) (now (st .entry))) ⌝ }
 {
     let mut turns = s.len();
@@ -826,10 +831,11 @@ fn con(
         leaf::no_level(s, out, st, mode);
         return;
     }
-    cons(s, out, st, value, left - 1, binder, mode);
+    ct(s, out, st, value, left - 1, binder, mode);
 }
 
-fn cons(
+// A constant by its tag, with the level counted.
+fn ct(
     s: &[u8],
     out: &mut [u8],
     st: &mut [usize; 4],
@@ -866,7 +872,7 @@ fn cons(
         }
         b'B' => {
             go(st, t.behind);
-            back(s, out, st, const_kind(value), left, binder, mode);
+            bk(s, out, st, const_kind(value), left, binder, mode);
         }
         _ => leaf::integer(s, out, st, mode),
     }
@@ -893,10 +899,11 @@ fn lit(
         leaf::literal(s, out, st, mode);
         return;
     }
-    brac(s, out, st, b, value, left, binder, mode);
+    brc(s, out, st, b, value, left, binder, mode);
 }
 
-fn brac(
+// In braces, outside a value.
+fn brc(
     s: &[u8],
     out: &mut [u8],
     st: &mut [usize; 4],
@@ -909,11 +916,12 @@ fn brac(
     ensures { λ _. ⌜ at (now (out .exit)) (now (st .exit)) ≡ lay mode (g.bracedBy (now (s .entry)) (g.level (now (s .entry)) left) tag value (follows mode) binder) (at (now (out .entry)) (now (st .entry))) ⌝ }
 {
     text::word_if(out, st, !value, words::BRACE, mode);
-    body(s, out, st, tag, left, binder, mode);
+    bod(s, out, st, tag, left, binder, mode);
     text::word_if(out, st, !value, words::CLOSE, mode);
 }
 
-fn body(s: &[u8], out: &mut [u8], st: &mut [usize; 4], tag: u8, left: usize, binder: u64, mode: u8)
+// What stands in the braces.
+fn bod(s: &[u8], out: &mut [u8], st: &mut [usize; 4], tag: u8, left: usize, binder: u64, mode: u8)
     ensures { λ _. ⌜ at (now (out .exit)) (now (st .exit)) ≡ lay mode (g.bodyBy (now (s .entry)) (g.level (now (s .entry)) left) tag (follows mode) binder) (at (now (out .entry)) (now (st .entry))) ⌝ }
 {
     match tag {
@@ -930,11 +938,12 @@ fn body(s: &[u8], out: &mut [u8], st: &mut [usize; 4], tag: u8, left: usize, bin
             mode,
         ),
         b'T' => tup(s, out, st, Item::Expr, left, binder, mode),
-        _ => refk(s, out, st, tag == b'Q', left, binder, mode),
+        _ => rk(s, out, st, tag == b'Q', left, binder, mode),
     }
 }
 
-fn refk(
+// A reference to a constant.
+fn rk(
     s: &[u8],
     out: &mut [u8],
     st: &mut [usize; 4],
@@ -965,7 +974,7 @@ fn seq(
     ensures { λ _. ⌜ at (now (out .exit)) (now (st .exit)) ≡ lay mode (g.between (now (s .entry)) (g.level (now (s .entry)) left) from item to (follows mode) binder) (at (now (out .entry)) (now (st .entry))) ⌝ }
 {
     text::word(out, st, from, mode);
-    list(s, out, st, item, left, binder, mode);
+    ls(s, out, st, item, left, binder, mode);
     text::word(out, st, to, mode);
 }
 
@@ -983,10 +992,11 @@ fn adt(
 {
     text::word_if(out, st, !value, words::BRACE, mode);
     path(s, out, st, true, left, binder, mode);
-    vars(s, out, st, value, left, binder, mode);
+    var(s, out, st, value, left, binder, mode);
 }
 
-fn vars(
+// The fields of a struct or an enum, by their form.
+fn var(
     s: &[u8],
     out: &mut [u8],
     st: &mut [usize; 4],
@@ -1010,7 +1020,7 @@ fn vars(
         }
         b'T' => {
             go(st, t.behind);
-            flds(
+            fl(
                 s,
                 out,
                 st,
@@ -1025,7 +1035,7 @@ fn vars(
         }
         b'S' => {
             go(st, t.behind);
-            flds(
+            fl(
                 s,
                 out,
                 st,
@@ -1042,7 +1052,8 @@ fn vars(
     }
 }
 
-fn flds(
+// Fields from a word to a word, and the brace behind them.
+fn fl(
     s: &[u8],
     out: &mut [u8],
     st: &mut [usize; 4],
@@ -1078,7 +1089,7 @@ fn fld(s: &[u8], out: &mut [u8], st: &mut [usize; 4], left: usize, binder: u64, 
 }
 
 // A list, up to the `E` that ends it: how many elements it has. No list has more elements than the symbol has bytes.
-fn list(
+fn ls(
     s: &[u8],
     out: &mut [u8],
     st: &mut [usize; 4],
@@ -1115,6 +1126,7 @@ fn list(
     }
 }
 
+// An element of a list.
 fn one(
     s: &[u8],
     out: &mut [u8],
@@ -1131,7 +1143,7 @@ fn one(
         Item::Arg => arg(s, out, st, left, binder, mode),
         Item::Expr => con(s, out, st, true, left, binder, mode),
         Item::Field => fld(s, out, st, left, binder, mode),
-        Item::Trait => bind(s, out, st, left, binder, mode),
+        Item::Trait => dt(s, out, st, left, binder, mode),
     }
 }
 
