@@ -1,0 +1,2 @@
+-- Laws that the proofs of `exports` cite.
+pub mod ReportLaws
