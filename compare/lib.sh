@@ -40,3 +40,9 @@ vectors_dir() {
         (cd "$root/../shared/vectors" && pwd)
     fi
 }
+
+# v0.rs counts bound lifetimes in 32 bits and may wrap: overflow checks would
+# turn that into a panic, so they are off, as in any release build.
+compile() {
+    rustc -O --edition 2021 -C overflow-checks=off "$@"
+}
