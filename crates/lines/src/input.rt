@@ -34,6 +34,15 @@ pub fn with_byte(line: &mut [u8], h: Held, b: u8) -> Held {
     }
 }
 
+// The first bytes of a slice: all of them, where it has no more than asked for.
+pub fn front(s: &[u8], n: usize) -> &[u8] {
+    if n > s.len() {
+        return s;
+    }
+    let from = 0;
+    &s[from..n]
+}
+
 // Where the first field of a line ends: at its first blank, or with the line.
 pub fn field_end(line: &[u8]) -> usize
     ensures { λ r. ⌜ r ≤ length (now (line .entry)) ⌝ }

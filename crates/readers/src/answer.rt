@@ -19,12 +19,7 @@ pub fn line(line: &[u8], h: Held, text: &mut [u8], out: &mut [u8], used: usize) 
     if h.long {
         return put(out, used, b"? long\n");
     }
-    let from = 0;
-    let to = h.count;
-    if to > line.len() {
-        return used;
-    }
-    let k = question(&line[from..to], text, out, used);
+    let k = question(lines::input::front(line, h.count), text, out, used);
     put_byte(out, k, b'\n')
 }
 

@@ -1,6 +1,7 @@
 // The answer to a line.
-use crate::desk;
 use crate::field;
+use demangle::print::Mode;
+use demangle::print::print;
 use lines::input::Bytes;
 use lines::input::Field;
 use lines::input::Held;
@@ -34,27 +35,21 @@ pub fn line(
     if h.long {
         return put(out, used, b"? long\n");
     }
-    let from = 0;
-    let to = h.count;
-    if to > line.len() {
-        return used;
-    }
-    let k = question(&line[from..to], text, room, out, used);
+    let k = question(lines::input::front(line, h.count), text, room, out, used);
     put_byte(out, k, b'\n')
 }
 
 fn question(line: &[u8], text: &mut [u8], room: &mut [u8], out: &mut [u8], used: usize) -> usize {
-    let mode = mode_of(line);
-    if mode == 0 {
+    let Asked::In(mode) = mode_of(line) else {
         return put(out, used, b"? mode");
-    }
+    };
     symbol(lines::input::behind(line), mode, text, room, out, used)
 }
 
 // Behind the mode: the room, and the symbol in hex.
 fn symbol(
     line: &[u8],
-    mode: u8,
+    mode: Mode,
     text: &mut [u8],
     room: &mut [u8],
     out: &mut [u8],
@@ -77,24 +72,30 @@ fn symbol(
     ask(&text[from..k], mode, &mut room[from..to], out, used)
 }
 
-// `p` is plain, `s` is short; 0 for any other.
-fn mode_of(line: &[u8]) -> u8 {
+// The mode that a line asks for.
+enum Asked {
+    In(Mode),
+    None,
+}
+
+// `p` is plain, `s` is short.
+fn mode_of(line: &[u8]) -> Asked {
     if lines::input::field_end(line) != 1 {
-        return 0;
+        return Asked::None;
     }
     let b = peek(line, 0);
     if b == b'p' {
-        return 1;
+        return Asked::In(Mode::Plain);
     }
     if b == b's' {
-        return 2;
+        return Asked::In(Mode::Short);
     }
-    0
+    Asked::None
 }
 
-fn ask(symbol: &[u8], mode: u8, room: &mut [u8], out: &mut [u8], used: usize) -> usize {
+fn ask(symbol: &[u8], mode: Mode, room: &mut [u8], out: &mut [u8], used: usize) -> usize {
     field::fill(room);
-    let k = field::checked(out, used, desk::check(symbol), symbol.len());
-    let p = desk::print(symbol, mode, room);
+    let k = field::checked(out, used, symbol);
+    let p = print(symbol, mode, room);
     field::printed(out, k, p, room)
 }

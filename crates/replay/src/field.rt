@@ -1,8 +1,10 @@
 // The fields of an answer, and the buffer's bytes around a call.
-use crate::desk::Checked;
-use crate::desk::Printed;
+use demangle::check::Checked;
+use demangle::check::check;
+use demangle::print::Printed;
 use lines::output::put_byte;
 use lines::output::put_decimal;
+use lines::output::put_hex_byte;
 
 // What the buffer holds before a call: bytes that the call leaves must still be these.
 const BEFORE: u8 = 0xa5;
@@ -17,29 +19,31 @@ fn pair(out: &mut [u8], used: usize, a: u64, b: usize) -> usize {
     number(out, k, b as u64)
 }
 
-// Where the suffix starts, of a symbol of so many bytes.
-fn suffix(length: usize, skipped: usize, place: usize) -> usize {
-    if skipped > length {
-        return length;
+// The place at which the suffix starts: it stands at the symbol's end.
+fn suffix_start(symbol: &[u8]) -> usize {
+    let n = demangle::check::suffix(symbol).len();
+    if n > symbol.len() {
+        return 0;
     }
-    if place > length - skipped {
-        return length;
-    }
-    skipped + place
+    symbol.len() - n
 }
 
-pub fn checked(out: &mut [u8], used: usize, c: Checked, length: usize) -> usize {
+fn number_of(c: Checked) -> u64 {
     match c {
-        Checked::Done(skipped, place) => pair(out, used, 0, suffix(length, skipped, place)),
-        Checked::Invalid => pair(out, used, 1, length),
-        Checked::RecursedTooDeep => pair(out, used, 2, length),
-        Checked::TooLong => pair(out, used, 3, length),
+        Checked::Done => 0,
+        Checked::Invalid => 1,
+        Checked::RecursedTooDeep => 2,
+        Checked::TooLong => 3,
     }
+}
+
+pub fn checked(out: &mut [u8], used: usize, symbol: &[u8]) -> usize {
+    pair(out, used, number_of(check(symbol)), suffix_start(symbol))
 }
 
 pub fn printed(out: &mut [u8], used: usize, p: Printed, room: &[u8]) -> usize {
     match p {
-        Printed::Done(n, damaged) => text(out, used, n, damaged, room),
+        Printed::Done(n, whole) => text(out, used, n, whole, room),
         Printed::Invalid => refused(out, used, 1, room),
         Printed::RecursedTooDeep => refused(out, used, 2, room),
         Printed::TooLong => refused(out, used, 3, room),
@@ -47,12 +51,12 @@ pub fn printed(out: &mut [u8], used: usize, p: Printed, room: &[u8]) -> usize {
     }
 }
 
-fn text(out: &mut [u8], used: usize, n: usize, damaged: bool, room: &[u8]) -> usize {
+fn text(out: &mut [u8], used: usize, n: usize, whole: bool, room: &[u8]) -> usize {
     let k = pair(out, used, 0, n);
-    if damaged {
-        return state(out, k, b'd', room, n);
+    if whole {
+        return state(out, k, b'w', room, n);
     }
-    state(out, k, b'w', room, n)
+    state(out, k, b'd', room, n)
 }
 
 fn refused(out: &mut [u8], used: usize, no: u64, room: &[u8]) -> usize {
@@ -89,25 +93,10 @@ fn hex_bytes(out: &mut [u8], used: usize, bytes: &[u8]) -> usize {
     let mut k = used;
     let mut i = 0;
     while i < bytes.len() {
-        k = two(out, k, bytes[i]);
+        k = put_hex_byte(out, k, bytes[i]);
         i += 1;
     }
     k
-}
-
-fn two(out: &mut [u8], used: usize, b: u8) -> usize {
-    let k = put_byte(out, used, hex(b / 16));
-    put_byte(out, k, hex(b % 16))
-}
-
-fn hex(d: u8) -> u8 {
-    if d < 10 {
-        return 48 + d;
-    }
-    if d < 16 {
-        return 87 + d;
-    }
-    b'?'
 }
 
 pub fn fill(room: &mut [u8]) {

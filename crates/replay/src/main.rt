@@ -1,7 +1,6 @@
 // Reads lines `MODE ROOM HEX` and writes for each `CHECK SUFFIX PRINT LENGTH STATE KEPT TEXT`: what the check and the print of that
 // symbol answer, in that mode and with that room. The Rust beside it (compare/) writes the same lines from the original.
 mod answer;
-mod desk;
 mod field;
 
 use lines::input::Held;

@@ -15,11 +15,11 @@ abbrev μ-loop : tie.MeasureT-loop
 loop-holds : tie.Need-loop-holds Inv-loop μ-loop
 loop-holds c = search needs
 
-shared-slice-read-two : tie.Need-shared-slice-read-two Inv-loop μ-loop
-shared-slice-read-two c = search needs
+shared-slice-read-put-hex-byte : tie.Need-shared-slice-read-put-hex-byte Inv-loop μ-loop
+shared-slice-read-put-hex-byte c = search needs
 
-two-requires : tie.Need-two-requires Inv-loop μ-loop
-two-requires c κs = search needs
+put-hex-byte-requires : tie.Need-put-hex-byte-requires Inv-loop μ-loop
+put-hex-byte-requires c κs = search needs
 
 add-i : tie.Need-add-i Inv-loop μ-loop
 add-i c = search needs
@@ -43,8 +43,8 @@ hex-bytes-spec =
     Inv-loop
     μ-loop
     loop-holds
-    shared-slice-read-two
-    two-requires
+    shared-slice-read-put-hex-byte
+    put-hex-byte-requires
     add-i
     loop-less
     loop-again
