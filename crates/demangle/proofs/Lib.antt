@@ -13,3 +13,4 @@ pub mod DerivationLaws
 pub mod CompleteLaws
 pub mod GrammarLaws
 pub mod Meaning
+pub mod Bench

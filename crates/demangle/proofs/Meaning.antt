@@ -11,10 +11,11 @@ use Rattle.pieces.specs.Piece.{Piece}
 use Rattle.printer.specs.Says.{U, Res, ok, bad}
 use Rattle.printer.specs.Model.{level, held}
 use Rattle.demangle.specs.Accept.{most, levels, prefixOf, isUpper, allAscii, reachedOf, pathAt, secondAt, behindAt, readingOf, verdictBy, verdictAt, verdictOf}
-use Rattle.demangle.specs.Rows.{Told, whole, damaged, unknown, Row, firstPath, textOf, soundly, shown, rowBy, rowOf}
+use Rattle.demangle.specs.Rows.{whole, damaged, Row, firstPath, textOf, soundly, shown, rowBy, rowOf}
 use Rattle.demangle.specs.Grammar.{path, check, sound, free, Reads}
 use Rattle.demangle.specs.Sound.{Ready, Behind, alone, second, Accepts, SoundTo}
 use Rattle.demangle.proofs.GrammarLaws as grammar
+use Rattle.demangle.proofs.Unique.{isWhole}
 use Rattle.demangle.specs.declared.print.Mode.{Mode}
 use Rattle.demangle.specs.declared.judge.Reached.{Reached}
 use Rattle.demangle.specs.declared.judge.Reached.the-variants.{At, Invalid, RecursedTooDeep}
@@ -140,11 +141,6 @@ path-sound t h = run-sound t (level t levels .path true true 0 .run 0) refl h
 sound-path : (t : List ℕ) (j : ℕ) → SoundTo t j → soundly (firstPath t) ≡ true
 unfolding firstPath
 sound-path t j r = ap soundly (grammar.whole t true true r .1)
-
-isWhole : Told → Bool
-isWhole whole = true
-isWhole damaged = false
-isWhole unknown = false
 
 -- s is accepted with a prefix of k bytes, and its text fits the buffer b
 module _ (mode : Mode) (s b : List ℕ) (k i : ℕ) (taken : verdictOf s ≡ Accepted k i) (fits : length (textOf mode (drop k s)) ≤ length b) where

@@ -31,7 +31,7 @@ pub check-unique : (s : List ℕ) (r q : Checked) → checkNumber r ≡ numberOf
 check-unique s r q h k = sym (checked-back r) ∙ ap checkedAs (h ∙ sym k) ∙ checked-back q
 
 -- ---- an answer read off its row
-abbrev isWhole : Told → Bool
+abbrev pub isWhole : Told → Bool
 isWhole whole = true
 isWhole damaged = false
 isWhole unknown = false
