@@ -2,7 +2,8 @@
 use mathlib.Core.Path.{_≡_, refl, sym, ap, _∙_, subst}
 use mathlib.Core.Bool.{Bool, true, false, not, _&&_, true≢false}
 use mathlib.Core.List.{List}
-use Prim.Native.Nat.{ℕ, zero, suc, _≤_}
+use Prim.Native.Nat.{ℕ, zero, suc, _+_, _≤_}
+use native.Mathlib.Omega.{arith}
 use borrow.Author.Tests.{ltb-false, eqb-false, le-ltb, ne-eqb, le-leb, not-true}
 use lib.Dec.{eqb, ltb, leb}
 use lib.ListN.{length, drop, getD}
@@ -11,7 +12,7 @@ use Rattle.pieces.specs.Piece.{Piece}
 use Rattle.printer.specs.Says.{U, Res, ok, bad}
 use Rattle.printer.specs.Model.{level, held}
 use Rattle.demangle.specs.Accept.{most, levels, prefixOf, isUpper, allAscii, reachedOf, pathAt, secondAt, behindAt, readingOf, verdictBy, verdictAt, verdictOf}
-use Rattle.demangle.specs.Rows.{whole, damaged, Row, firstPath, textOf, soundly, shown, rowBy, rowOf}
+use Rattle.demangle.specs.Rows.{numberBy, numberOf, suffixBy, suffixFrom, whole, damaged, Row, firstPath, textOf, soundly, shown, rowBy, rowOf}
 use Rattle.demangle.specs.Grammar.{path, check, sound, free, Reads}
 use Rattle.demangle.specs.Sound.{Ready, Behind, alone, second, Accepts, SoundTo}
 use Rattle.demangle.proofs.GrammarLaws as grammar
@@ -123,6 +124,22 @@ pub accepted : (s : List ℕ) (k j : ℕ) → Accepts s k j → verdictOf s ≡ 
 unfolding verdictOf verdictAt verdictBy readingOf behindAt
 accepted s k j a =
     rw (le-ltb most (length s) (a .ready .short), a .ready .prefix, ne-eqb k 0 (a .ready .some), a .ready .letter, a .ready .ascii, path-reached (drop k s) 0 (a .end) (a .first), second-reached (drop k s) (a .end) j (a .rest))
+
+-- so of the check's number and of the suffix: Done exactly for such a symbol, and the suffix starts where the last derivation ends
+number-done : (s : List ℕ) (v : Verdict) → verdictOf s ≡ v → numberBy v ≡ 0 → (k : ℕ) × (j : ℕ) × Accepts s k j
+unfolding numberBy
+number-done s (Accepted k j) e h = (k, j, accepts s k j e)
+number-done s Refused e h = absurd (omega (arith, h))
+number-done s Deep e h = absurd (omega (arith, h))
+number-done s TooLong e h = absurd (omega (arith, h))
+
+pub done-accepts : (s : List ℕ) → numberOf s ≡ 0 → (k : ℕ) × (j : ℕ) × Accepts s k j
+unfolding numberOf
+done-accepts s h = number-done s (verdictOf s) refl h
+
+pub accepts-done : (s : List ℕ) (k j : ℕ) → Accepts s k j → (numberOf s ≡ 0) × (suffixFrom s ≡ k + j)
+unfolding numberOf numberBy suffixFrom suffixBy
+accepts-done s k j a = (rw (accepted s k j a), rw (accepted s k j a))
 
 -- the reading is unique
 pub accepts-one : (s : List ℕ) (k j l m : ℕ) → Accepts s k j → Accepts s l m → (k ≡ l) × (j ≡ m)

@@ -9,9 +9,9 @@ use lib.ListN.{length, drop, getD, length-drop}
 use Rattle.parser.specs.Digits.{if-then}
 use Rattle.printer.specs.Says.{U, Res, ok, bad}
 use Rattle.printer.specs.Model.{level}
-use Rattle.demangle.proofs.EndLaws.{inside, ends-within}
+use Rattle.demangle.proofs.EndLaws.{either, ends}
+use Rattle.demangle.proofs.GrammarLaws.{checked}
 use Rattle.demangle.proofs.PrefixLaws.{prefix-within}
-use Rattle.parser.proofs.ByteLaws as bytes
 use Rattle.demangle.specs.Accept.{levels, most, prefixOf, isUpper, allAscii, reachedOf, pathAt, secondAt, behindAt, readingOf, verdictBy, verdictAt, verdictOf}
 use Rattle.demangle.specs.declared.judge.Reached.{Reached}
 use Rattle.demangle.specs.declared.judge.Reached.the-variants.{At, Invalid, RecursedTooDeep}
@@ -29,24 +29,19 @@ VerdictIn s Refused = U
 VerdictIn s Deep = U
 VerdictIn s TooLong = U
 
--- both ways of a test
-either : {A : Type 0} (P : A → Type 0) (t : Bool) (a b : A) → P a → P b → P (if-then t a b)
-either P true a b h k = h
-either P false a b h k = k
-
 module _ (s : List ℕ) where
-  reached-in : (r : Res U) → inside s r → ReachedIn s (reachedOf r)
-  reached-in (ok a j d o) h = h
-  reached-in (bad a zero j d o) h = tt
-  reached-in (bad a (suc x) j d o) h = tt
+  run-in : (i : ℕ) (r : Res U) → level s levels .path false false 0 .run i ≡ r → ReachedIn s (reachedOf r)
+  run-in i (ok a j d o) e = ends s (checked s levels false d 0 i j e)
+  run-in i (bad a zero j d o) e = tt
+  run-in i (bad a (suc x) j d o) e = tt
 
-  path-in : (i : ℕ) → i ≤ length s → ReachedIn s (pathAt s i)
+  path-in : (i : ℕ) → ReachedIn s (pathAt s i)
   unfolding pathAt
-  path-in i h = reached-in (level s levels .path false false 0 .run i) (ends-within s levels false false 0 i h)
+  path-in i = run-in i (level s levels .path false false 0 .run i) refl
 
   second-in : (i : ℕ) → i ≤ length s → ReachedIn s (secondAt s i)
   unfolding secondAt
-  second-in i h = either (ReachedIn s) (isUpper (getD s i 0)) (pathAt s i) (At i) (path-in i h) h
+  second-in i h = either (ReachedIn s) (isUpper (getD s i 0)) (pathAt s i) (At i) (path-in i) h
 
   behind-in : (f : Reached) → ReachedIn s f → ReachedIn s (behindAt s f)
   unfolding behindAt
@@ -57,7 +52,7 @@ module _ (s : List ℕ) where
   reading-in : ReachedIn s (readingOf s)
   unfolding readingOf
   reading-in =
-      either (ReachedIn s) (isUpper (getD s 0 0) && allAscii s) (behindAt s (pathAt s 0)) Invalid (behind-in (pathAt s 0) (path-in 0 (omega arith))) tt
+      either (ReachedIn s) (isUpper (getD s 0 0) && allAscii s) (behindAt s (pathAt s 0)) Invalid (behind-in (pathAt s 0) (path-in 0)) tt
 
 verdict-by : (s : List ℕ) (k : ℕ) (f : Reached) → k ≤ length s → ReachedIn (drop k s) f → VerdictIn s (verdictBy k f)
 unfolding verdictBy
