@@ -2,7 +2,7 @@
  *
  * Each function takes any bytes. A pointer is followed by the number of elements behind it: the memory must be there, the two that are
  * written must overlap nothing else that is passed, and an empty one is any pointer but NULL with 0. Nothing is kept after a call, and
- * nothing is allocated.
+ * nothing is allocated. The archive needs the C library's memset. Calls nest with the symbol, 500 levels at most: leave them 512 KiB of stack.
  */
 #ifndef VAULT_H
 #define VAULT_H
@@ -26,7 +26,8 @@ enum vault_answer {
 /* Plain has the crates' hashes and the integers' types; short, which is any number but 0, leaves them out. */
 enum vault_mode { VAULT_PLAIN = 0, VAULT_SHORT = 1 };
 
-/* What a name is: damaged where a part could not be read and a marker stands in its place. Unknown with every answer but Done. */
+/* What a name is: damaged where a part could not be read. The text need not show it: mostly a marker stands there, but an identifier may
+ * look like one, and some damage shows only as `?`. Unknown with every answer but Done. */
 enum vault_state { VAULT_UNKNOWN = 0, VAULT_WHOLE = 1, VAULT_DAMAGED = 2 };
 
 /* Whether the symbol is accepted; never VAULT_NO_ROOM. */

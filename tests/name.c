@@ -11,6 +11,7 @@ int main(int count, char **words) {
         uint64_t report[2] = {0, 0};
         uint32_t answer = vault_print(symbol, length, VAULT_PLAIN, buffer, sizeof buffer, report, 2);
         if (answer != VAULT_NO_ROOM && answer != vault_check(symbol, length)) {
+            fprintf(stderr, "%s: check and print differ\n", words[i]);
             return 1;
         }
         printf("%u %u [%.*s] [%s]\n", (unsigned)answer, (unsigned)report[1], (int)report[0], (const char *)buffer, words[i] + vault_suffix(symbol, length));

@@ -57,7 +57,8 @@ fn by_port(symbol: &str, short: bool, room: &mut Room) {
     room.used = report[0] as usize;
 }
 
-/// Whether both print the same. They do but for quoted characters from U+0080 up, which the port shows as escapes (document 01).
+/// Whether both print the same. Of symbols that are not too long they do, but for quoted characters from U+0080 up, which the port shows
+/// as escapes (document 01).
 fn same(symbol: &str, short: bool, room: &mut Room) -> bool {
     by_crate(symbol, short, room);
     let theirs = room.bytes[..room.used].to_vec();

@@ -1,5 +1,5 @@
 //! Names of Rust v0 symbols, by a library that is proved: the functions of `exports` behind the interface that users of rustc-demangle
-//! know. A symbol is any bytes.
+//! know. A symbol is any bytes. Other than there, legacy symbols are refused, and a suffix is shown as it is, `.llvm.` too.
 //!
 //! ```
 //! let name = vaultmuslin::try_demangle(b"_RNvC6_123foo3bar.cold").unwrap();
@@ -37,7 +37,7 @@ pub enum Error {
     NoRoom,
 }
 
-/// Whether a name is all of its symbol's, or has a marker where a part could not be read.
+/// Whether a name is all of its symbol's, or a part of it could not be read. The text need not show that.
 #[derive(Clone, Copy, Debug, PartialEq, Eq, Hash)]
 pub enum State {
     Whole,

@@ -1,4 +1,4 @@
-//! Every line that `replay` is held to (the boards, the edges, the published vectors and the Rust's own answers), asked of this crate.
+//! The lines of `replay`'s own test (boards, edges, published vectors, generated symbols, with the Rust's answers), asked of this crate.
 use std::fmt::Write;
 use vaultmuslin::{check, print, suffix, Error, Mode, State};
 
@@ -57,6 +57,7 @@ fn lines() {
     let folder = concat!(env!("CARGO_MANIFEST_DIR"), "/../crates/replay/");
     let questions = std::fs::read_to_string(format!("{folder}stdin")).unwrap();
     let answers = std::fs::read_to_string(format!("{folder}stdout")).unwrap();
+    assert_eq!(questions.lines().count(), answers.lines().count());
     let mut asked = 0;
     for (question, expected) in questions.lines().zip(answers.lines()) {
         let fields: Vec<&str> = question.split(' ').collect();

@@ -145,6 +145,9 @@ accepts-done s k j a = (rw (accepted s k j a), rw (accepted s k j a))
 pub accepts-one : (s : List ℕ) (k j l m : ℕ) → Accepts s k j → Accepts s l m → (k ≡ l) × (j ≡ m)
 accepts-one s k j l m a b = let h = sym (accepted s k j a) ∙ accepted s l m b in (ap prefixIn h, ap placeIn h)
 
+pub first-one : (s : List ℕ) (k j m : ℕ) (a : Accepts s k j) (b : Accepts s k m) → a .end ≡ b .end
+first-one s k j m a b = grammar.one-end (drop k s) (a .first) (b .first)
+
 -- ---- whole: exactly where the first path is sound
 run-sound : (t : List ℕ) (r : Res U) → level t levels .path true true 0 .run 0 ≡ r → soundly r ≡ true → (j : ℕ) × SoundTo t j
 run-sound t (ok a j true o) e h = absurd (true≢false (sym h))
@@ -158,6 +161,9 @@ path-sound t h = run-sound t (level t levels .path true true 0 .run 0) refl h
 sound-path : (t : List ℕ) (j : ℕ) → SoundTo t j → soundly (firstPath t) ≡ true
 unfolding firstPath
 sound-path t j r = ap soundly (grammar.whole t true true r .1)
+
+pub free-sound : (t : List ℕ) (j : ℕ) → Reads t path free levels 0 0 j → SoundTo t j
+free-sound t j r = grammar.free-reads t r
 
 -- s is accepted with a prefix of k bytes, and its text fits the buffer b
 module _ (mode : Mode) (s b : List ℕ) (k i : ℕ) (taken : verdictOf s ≡ Accepted k i) (fits : length (textOf mode (drop k s)) ≤ length b) where
@@ -185,10 +191,10 @@ module _ (mode : Mode) (s b : List ℕ) (k i : ℕ) (taken : verdictOf s ≡ Acc
   pub damaged-unsound : rowOf mode s b .state ≡ damaged → (j : ℕ) → SoundTo (drop k s) j → ⊥
   damaged-unsound h j r = true≢false (ap isWhole (sym (sound-whole j r) ∙ h))
 
+  -- the consequence: no back reference, and no lifetime but 0
+  pub free-whole : (j : ℕ) → Reads (drop k s) path free levels 0 0 j → rowOf mode s b .state ≡ whole
+  free-whole j r = sound-whole j (free-sound (drop k s) j r)
+
 -- ---- the end: the followed reading of a sound symbol ends where the check's reading ended the first path
 pub sound-ends : (s : List ℕ) (k j e : ℕ) (a : Accepts s k j) → SoundTo (drop k s) e → e ≡ a .end
 sound-ends s k j e a r = grammar.sound-ends (drop k s) r (a .first)
-
--- ---- the consequence: no back reference, and no lifetime but 0
-pub free-sound : (t : List ℕ) (j : ℕ) → Reads t path free levels 0 0 j → SoundTo t j
-free-sound t j r = grammar.free-reads t r

@@ -153,7 +153,8 @@ module _ (s : List ℕ) where
     followed : {p q : Part} {n m b i j k v : ℕ} → Leads p q n m → s ! i ≡ 'B' → backAt s (i + 1) ≡ Target v j → Reads q sound m b v k → Reads p sound n b i j
     -- ======== what the crate adds
     -- ---- depth: the levels above, of which RFC 2603 has none. Greedy reading: the conditions with ≢, and the `_` behind an identifier's length, never
-    -- the first of its bytes. It leaves out a version number, constants of other types than those above, and an abi that is empty or has Punycode
+    -- the first of its bytes. It leaves out a version number, constants of other types than those above, an `n` before other than
+    -- a signed one, and an abi that is empty or has Punycode
     -- ---- type → w type, where no second w follows; pattern-type → W type pattern
     splat : {f : Follow} {n b i j : ℕ} → s ! i ≡ 'w' → Reads bare f n b (i + 1) j → Reads type f n b i j
     pattern-type : {f : Follow} {n b i j k : ℕ} → s ! i ≡ 'W' → Reads type f n b (i + 1) j → Reads pattern f n b j k → Reads bare f (suc n) b i k
@@ -161,7 +162,7 @@ module _ (s : List ℕ) where
     range-pattern : {f : Follow} {n b i j k : ℕ} → s ! i ≡ 'R' → Reads const f n b (i + 1) j → Reads const f n b j k → Reads pattern f n b i k
     or-pattern : {f : Follow} {n b i j k : ℕ} → s ! i ≡ 'O' → Reads pattern f n b (i + 1) j → Reads (many patterns) f n b j k → Reads pattern f (suc n) b i k
     null-pattern : {f : Follow} {n b i : ℕ} → s ! i ≡ 'N' → Reads pattern f n b i (i + 1)
-    -- ---- dyn-trait-assoc-binding → p undisambiguated-identifier K const
+    -- ---- dyn-trait-assoc-binding → p undisambiguated-identifier K const: the book has it, RFC 2603 has not
     const-binding : {f : Follow} {n b i j k l x y z : ℕ}
         → s ! i ≡ 'p' → identAt s (i + 1) ≡ Parts x y z j → s ! j ≡ 'K' → Reads const f n b (j + 1) k → Reads bindings f n b k l
         → Reads bindings f n b i l
