@@ -6,35 +6,30 @@ use Prim.Native.Nat.{ℕ, zero, suc, _+_, _-_, _^_, _≤_, _<_}
 use native.Mathlib.Omega.{arith}
 use borrow.Author.Tests.{ltb-true}
 use lib.Dec.{eqb, ltb, leb}
-use lib.ListN.{length, take, drop, getD}
-use Rattle.parser.specs.Digits.{if-then, within, digits, value}
-use Rattle.parser.specs.Scalar.{isScalar}
+use lib.ListN.{length, drop, getD}
+use Rattle.parser.specs.Digits.{if-then, within, digits}
 use Rattle.parser.specs.Bytes.{past, pastFirst, byteAt, firstByte, spaceAt, spaceOf}
-use Rattle.parser.specs.Number.{small, integer62, raised, optional62, decimal, length10, below, backAt, hexAt}
+use Rattle.parser.specs.Number.{small, integer62, raised, optional62, decimal, length10, backAt, hexAt}
 use Rattle.parser.specs.Names.{partOf, bytesAfter, spanAt, splitAt, coded, codedAt, plain, identAt}
 use Rattle.parser.specs.declared.number.Num.{Num}
 use Rattle.parser.specs.declared.number.Num.the-variants.{Value, Invalid as NoNum}
 use Rattle.parser.specs.declared.number.Back.the-variants.{Target}
-use Rattle.parser.specs.declared.number.Nibbles.{Nibbles}
-use Rattle.parser.specs.declared.number.Nibbles.the-variants.{To, Invalid as NoNibbles}
+use Rattle.parser.specs.declared.number.Nibbles.the-variants.{To}
 use Rattle.parser.specs.declared.names.Span.{Span}
 use Rattle.parser.specs.declared.names.Span.the-variants.{Part, Invalid as NoSpan}
 use Rattle.parser.specs.declared.names.Found.{Found}
 use Rattle.parser.specs.declared.names.Found.the-variants.{At, Nothing}
 use Rattle.parser.specs.declared.names.Name.{Name}
 use Rattle.parser.specs.declared.names.Name.the-variants.{Parts, Invalid as NoName}
-use Rattle.nibbles.specs.Uint.{hexValue, trim}
-use Rattle.nibbles.specs.Chars.{isText}
-use Rattle.nibbles.specs.declared.uint.Hex.{Hex}
-use Rattle.nibbles.specs.declared.uint.Hex.the-variants.{Small, Big, Invalid as NoHex}
 use Rattle.printer.specs.Says.{U, Got, got, lost}
-use Rattle.printer.specs.Readings.{letterOf, letterAt, calledBy, calledOf, namedAt, lifeAt, abiOf, abiAt, behindUnsafe, headAt, flagOf, flagAt, scalarOf}
-use Rattle.printer.specs.Readings.{scalarAt, literalOf, literalAt}
+use Rattle.printer.specs.Readings.{letterOf, letterAt, calledBy, calledOf, namedAt, lifeAt, abiOf, abiAt, behindUnsafe, headAt, flagAt}
+use Rattle.printer.specs.Readings.{scalarAt, literalAt}
 use Rattle.printer.specs.declared.read.Letter.the-variants.{Of as Ns}
 use Rattle.printer.specs.declared.read.Named.the-variants.{Of as Called}
 use Rattle.printer.specs.declared.read.Head.the-variants.{Of as Before}
 use Rattle.printer.specs.declared.read.Flag.the-variants.{Of as Is}
 use Rattle.printer.specs.declared.read.Literal.the-variants.{Of as Spelt}
+use Rattle.demangle.proofs.ClosedLaws.{NumAt, either, small-at, integer-at, back-at, nibbles-at, flag-at, scalar-at, literal-at}
 use Rattle.printer.specs.Model as g
 
 -- what holds of each place that a reading answers
@@ -46,13 +41,12 @@ grown : {A : Type 0} {i j : ℕ} {a : A} (x : Got A) → x ≡ got a j → At-le
 grown x e h = rw e at h
 
 module _ {A B : Type 0} (r : A → Got B) (i : ℕ) where
-  either : (t : Bool) (a b : A) → At-least i (r a) → At-least i (r b) → At-least i (r (if-then t a b))
-  either true a b h k = h
-  either false a b h k = k
+  got-either : (t : Bool) (a b : A) → At-least i (r a) → At-least i (r b) → At-least i (r (if-then t a b))
+  got-either t a b h k = either (λ x. At-least i (r x)) t a b h k
 
   ranged : (lo hi c : ℕ) (a b : A) → At-least i (r a) → At-least i (r b) → At-least i (r (within lo hi c a b))
   unfolding within
-  ranged lo hi c a b h k = either (leb lo c) _ b (either (leb c hi) a b h k) k
+  ranged lo hi c a b h k = got-either (leb lo c) _ b (got-either (leb c hi) a b h k) k
 
 first-past : (k i : ℕ) (l : List ℕ) → i ≤ pastFirst k l i
 unfolding pastFirst
@@ -68,58 +62,49 @@ module _ (s : List ℕ) where
   unfolding past
   past-grows k i = first-past k i (drop i s)
 
-  -- numbers
-  small-grows : {i : ℕ} (v e : ℕ) → i ≤ e → At-least i (g.gotNum (small v e))
-  unfolding small
-  small-grows {i} v e h = either g.gotNum i (ltb v (2 ^ 64)) _ _ h tt
+  -- numbers: behind a `_`, and from a later place
+  behind : {i : ℕ} (e : ℕ) → i ≤ e → e + 1 ≤ length s → i ≤ e + 1
+  behind e h l = omega arith
 
-  integer-from : (i : ℕ) → At-least i (g.gotNum (integer62 s i))
-  unfolding integer62
-  integer-from i =
-      let e = i + length (digits 62 (drop i s)) in
-      either g.gotNum i (eqb (getD s e 0) 95) _ _ (small-grows _ (e + 1) (omega arith)) tt
+  integer-from : (i : ℕ) → NumAt (λ j. i ≤ j) (integer62 s i)
+  integer-from i = integer-at s (λ j. i ≤ j) i behind
 
-  raised-grows : (i : ℕ) (n : Num) → At-least i (g.gotNum n) → At-least i (g.gotNum (raised n))
+  raised-grows : (i : ℕ) (n : Num) → NumAt (λ j. i ≤ j) n → NumAt (λ j. i ≤ j) (raised n)
   unfolding raised
-  raised-grows i (Value v e) h = small-grows (v + 1) e h
+  raised-grows i (Value v e) h = small-at (λ j. i ≤ j) (v + 1) e h
   raised-grows i NoNum h = tt
 
-  -- from a later place
+  later-num : {i k : ℕ} (n : Num) → i ≤ k → NumAt (λ j. k ≤ j) n → NumAt (λ j. i ≤ j) n
+  later-num (Value v e) h l = omega arith
+  later-num NoNum h l = tt
+
   later : {A : Type 0} {i j : ℕ} (x : Got A) → i ≤ j → At-least j x → At-least i x
   later (got a k) h l = omega arith
   later (lost x) h l = tt
 
-  optional-from : (k i : ℕ) → At-least i (g.gotNum (optional62 k s i))
+  past-from : (k i : ℕ) → NumAt (λ j. i ≤ j) (integer62 s (past k s i))
+  past-from k i = later-num (integer62 s (past k s i)) (past-grows k i) (integer-from (past k s i))
+
+  optional-from : (k i : ℕ) → NumAt (λ j. i ≤ j) (optional62 k s i)
   unfolding optional62
-  optional-from k i = either g.gotNum i (eqb (past k s i) i) _ _ (omega arith)
-      (raised-grows i (integer62 s (past k s i)) (later (g.gotNum (integer62 s (past k s i))) (past-grows k i) (integer-from (past k s i))))
+  optional-from k i = either (NumAt (λ j. i ≤ j)) (eqb (past k s i) i) _ _ (omega arith) (raised-grows i (integer62 s (past k s i)) (past-from k i))
 
-  life-from : (i : ℕ) → At-least i (g.gotNum (lifeAt s i))
+  life-from : (i : ℕ) → NumAt (λ j. i ≤ j) (lifeAt s i)
   unfolding lifeAt
-  life-from i = either g.gotNum i (eqb (past 76 s i) i) _ _ (omega arith)
-      (later (g.gotNum (integer62 s (past 76 s i))) (past-grows 76 i) (integer-from (past 76 s i)))
-
-  below-grows : (i from : ℕ) (n : Num) → At-least i (g.gotNum n) → At-least i (g.gotBack (below from n))
-  unfolding below
-  below-grows i from (Value v e) h = either g.gotBack i (ltb v from) _ _ h tt
-  below-grows i from NoNum h = tt
-
-  back-from : (i : ℕ) → At-least i (g.gotBack (backAt s i))
-  unfolding backAt
-  back-from i = below-grows i (i - 1) (integer62 s i) (integer-from i)
+  life-from i = either (NumAt (λ j. i ≤ j)) (eqb (past 76 s i) i) _ _ (omega arith) (past-from 76 i)
 
   -- names
-  decimal-from : (i : ℕ) (ds : List ℕ) → At-least i (g.gotNum (decimal ds i))
+  decimal-from : (i : ℕ) (ds : List ℕ) → NumAt (λ j. i ≤ j) (decimal ds i)
   unfolding decimal
   decimal-from i [] = tt
   decimal-from i (zero ∷ ds) = omega arith
-  decimal-from i (suc d ∷ ds) = small-grows _ _ (omega arith)
+  decimal-from i (suc d ∷ ds) = small-at (λ j. i ≤ j) _ _ (omega arith)
 
   abbrev Starts : ℕ → Span → Type 0
   Starts i (Part a e) = (i ≤ a) × (a ≤ e)
   Starts i NoSpan = U
 
-  bytes-grow : (i : ℕ) (n : Num) → At-least i (g.gotNum n) → Starts i (bytesAfter s n)
+  bytes-grow : (i : ℕ) (n : Num) → NumAt (λ j. i ≤ j) n → Starts i (bytesAfter s n)
   unfolding bytesAfter partOf
   bytes-grow i (Value n next) h = go (leb (past 95 s next + n) (length s))
     where
@@ -139,8 +124,8 @@ module _ (s : List ℕ) where
 
   split-grows : (i a e : ℕ) (f : Found) → i ≤ e → At-least i (g.gotName (splitAt a e f))
   unfolding splitAt
-  split-grows i a e (At k) h = either g.gotName i (eqb (a + k + 1) e) _ _ tt h
-  split-grows i a e Nothing h = either g.gotName i (eqb a e) _ _ tt h
+  split-grows i a e (At k) h = got-either g.gotName i (eqb (a + k + 1) e) _ _ tt h
+  split-grows i a e Nothing h = got-either g.gotName i (eqb a e) _ _ tt h
 
   coded-grows : (i : ℕ) (p : Span) → Starts i p → At-least i (g.gotName (coded s p))
   unfolding coded
@@ -149,10 +134,10 @@ module _ (s : List ℕ) where
 
   ident-from : (i : ℕ) → At-least i (g.gotName (identAt s i))
   unfolding identAt codedAt
-  ident-from i = either g.gotName i (eqb (past 117 s i) i) _ _ (plain-grows i (spanAt s i) (span-from i))
+  ident-from i = got-either g.gotName i (eqb (past 117 s i) i) _ _ (plain-grows i (spanAt s i) (span-from i))
       (later (g.gotName (coded s (spanAt s (past 117 s i)))) (past-grows 117 i) (coded-grows _ (spanAt s (past 117 s i)) (span-from (past 117 s i))))
 
-  named-grows : (i : ℕ) (n : Num) → At-least i (g.gotNum n) → At-least i (g.gotNamed (calledOf s n))
+  named-grows : (i : ℕ) (n : Num) → NumAt (λ j. i ≤ j) n → At-least i (g.gotNamed (calledOf s n))
   named-grows i (Value d next) h = called (identAt s next) (later (g.gotName (identAt s next)) h (ident-from next))
     where
       called : (x : Name) → At-least i (g.gotName x) → At-least i (g.gotNamed (calledBy d x))
@@ -176,73 +161,35 @@ module _ (s : List ℕ) where
 
   -- what stands before the parameters of a function pointer
   abi-grows : (i : ℕ) (u : Bool) (n : Name) → At-least i (g.gotName n) → At-least i (g.gotHead (abiOf u n))
-  abi-grows i u (Parts a b c e) h = either g.gotHead i (eqb a b) _ _ tt (either g.gotHead i (eqb c e) _ _ h tt)
+  abi-grows i u (Parts a b c e) h = got-either g.gotHead i (eqb a b) _ _ tt (got-either g.gotHead i (eqb c e) _ _ h tt)
   abi-grows i u NoName h = tt
 
   abi-from : (u : Bool) (i : ℕ) → At-least i (g.gotHead (abiAt s u i))
   unfolding abiAt
-  abi-from u i = either g.gotHead i (eqb (past 67 s i) i) _ _ (abi-grows i u (identAt s i) (ident-from i)) (past-grows 67 i)
+  abi-from u i = got-either g.gotHead i (eqb (past 67 s i) i) _ _ (abi-grows i u (identAt s i) (ident-from i)) (past-grows 67 i)
 
   behind-from : (u : Bool) (i : ℕ) → At-least i (g.gotHead (behindUnsafe s u i))
   unfolding behindUnsafe
-  behind-from u i = either g.gotHead i (eqb (past 75 s i) i) _ _ (omega arith)
+  behind-from u i = got-either g.gotHead i (eqb (past 75 s i) i) _ _ (omega arith)
       (later (g.gotHead (abiAt s u (past 75 s i))) (past-grows 75 i) (abi-from u (past 75 s i)))
 
   head-from : (i : ℕ) → At-least i (g.gotHead (headAt s i))
   unfolding headAt
   head-from i = later (g.gotHead (behindUnsafe s _ (past 85 s i))) (past-grows 85 i) (behind-from _ (past 85 s i))
 
-  -- nibbles
-  hex-from : (i : ℕ) → At-least i (g.gotHex i (hexValue s i))
-  unfolding hexValue
-  hex-from i =
-      let ds = digits 16 (drop i s) in
-      let e = i + length ds in
-      let h : i ≤ e + 1 = omega arith in
-      either (g.gotHex i) i (eqb (getD s e 0) 95) _ _
-      (either (g.gotHex i) i (leb (length (trim ds)) 16) (Small (value 16 (trim ds)) (e + 1)) (Big e (e + 1)) h h) tt
-
-  flag-grows : (i : ℕ) (x : Hex) → At-least i (g.gotHex i x) → At-least i (g.gotFlag (flagOf x))
-  flag-grows i (Small zero e) h = h
-  flag-grows i (Small (suc zero) e) h = h
-  flag-grows i (Small (suc (suc v)) e) h = tt
-  flag-grows i (Big k e) h = tt
-  flag-grows i NoHex h = tt
-
-  scalar-grows : (i : ℕ) (x : Hex) → At-least i (g.gotHex i x) → At-least i (g.gotNum (scalarOf x))
-  scalar-grows i (Small v e) h = either g.gotNum i (isScalar v) _ _ h tt
-  scalar-grows i (Big k e) h = tt
-  scalar-grows i NoHex h = tt
-
-  abbrev To-least : ℕ → Nibbles → Type 0
-  To-least i (To e j) = i ≤ j
-  To-least i NoNibbles = U
-
-  nibbles-from : (i : ℕ) → To-least i (hexAt s i)
-  unfolding hexAt
-  nibbles-from i = go (eqb (getD s (i + length (digits 16 (drop i s))) 0) 95)
-    where
-      go : (t : Bool) → To-least i (if-then t (To (i + length (digits 16 (drop i s))) (i + length (digits 16 (drop i s)) + 1)) NoNibbles)
-      go true = omega arith
-      go false = tt
-
-  literal-grows : (i : ℕ) (x : Nibbles) → To-least i x → At-least i (g.gotLiteral i (literalOf s i x))
-  literal-grows i (To e j) h = either (g.gotLiteral i) i (isText (take (e - i) (drop i s))) _ _ h tt
-  literal-grows i NoNibbles h = tt
-
   -- what each reader answered
   module _ {i j : ℕ} where
     pub integer-grows : {v : ℕ} → integer62 s i ≡ Value v j → i ≤ j
-    integer-grows e = grown (g.gotNum (integer62 s i)) (ap g.gotNum e) (integer-from i)
+    integer-grows e = rw e at (integer-from i)
 
     pub optional-grows : {v : ℕ} (k : ℕ) → optional62 k s i ≡ Value v j → i ≤ j
-    optional-grows k e = grown (g.gotNum (optional62 k s i)) (ap g.gotNum e) (optional-from k i)
+    optional-grows k e = rw e at (optional-from k i)
 
     pub life-grows : {v : ℕ} → lifeAt s i ≡ Value v j → i ≤ j
-    life-grows e = grown (g.gotNum (lifeAt s i)) (ap g.gotNum e) (life-from i)
+    life-grows e = rw e at (life-from i)
 
     pub back-grows : {v : ℕ} → backAt s i ≡ Target v j → i ≤ j
-    back-grows e = grown (g.gotBack (backAt s i)) (ap g.gotBack e) (back-from i)
+    back-grows e = rw e at (back-at s (λ j. i ≤ j) i behind)
 
     pub ident-grows : {x y z : ℕ} → identAt s i ≡ Parts x y z j → i ≤ j
     ident-grows e = grown (g.gotName (identAt s i)) (ap g.gotName e) (ident-from i)
@@ -257,19 +204,16 @@ module _ (s : List ℕ) where
     head-grows e = grown (g.gotHead (headAt s i)) (ap g.gotHead e) (head-from i)
 
     pub flag-grows-to : {u : Bool} → flagAt s i ≡ Is u j → i ≤ j
-    unfolding flagAt
-    flag-grows-to e = grown (g.gotFlag (flagAt s i)) (ap g.gotFlag e) (flag-grows i (hexValue s i) (hex-from i))
+    flag-grows-to e = rw e at (flag-at s (λ j. i ≤ j) i behind)
 
     pub scalar-grows-to : {v : ℕ} → scalarAt s i ≡ Value v j → i ≤ j
-    unfolding scalarAt
-    scalar-grows-to e = grown (g.gotNum (scalarAt s i)) (ap g.gotNum e) (scalar-grows i (hexValue s i) (hex-from i))
+    scalar-grows-to e = rw e at (scalar-at s (λ j. i ≤ j) i behind)
 
     pub literal-grows-to : {e : ℕ} → literalAt s i ≡ Spelt e j → i ≤ j
-    unfolding literalAt
-    literal-grows-to e = grown (g.gotLiteral i (literalAt s i)) (ap (g.gotLiteral i) e) (literal-grows i (hexAt s i) (nibbles-from i))
+    literal-grows-to e = rw e at (literal-at s (λ j. i ≤ j) i behind)
 
     pub nibbles-grow : {e : ℕ} → hexAt s i ≡ To e j → i ≤ j
-    nibbles-grow e = rw e at (nibbles-from i)
+    nibbles-grow e = rw e at (nibbles-at s (λ j. i ≤ j) i behind)
 
 -- ---- what a base-62 number is at most
 abbrev Fits : Num → Type 0
@@ -285,17 +229,13 @@ small-fits v j = go (ltb v (2 ^ 64)) refl
     go false e = tt
 
 module _ (s : List ℕ) where
-  fits-either : (t : Bool) (a b : Num) → Fits a → Fits b → Fits (if-then t a b)
-  fits-either true a b h k = h
-  fits-either false a b h k = k
-
   integer-fit : (i : ℕ) → Fits (integer62 s i)
   unfolding integer62
-  integer-fit i = fits-either (eqb (getD s (i + length (digits 62 (drop i s))) 0) 95) _ _ (small-fits _ _) tt
+  integer-fit i = either Fits (eqb (getD s (i + length (digits 62 (drop i s))) 0) 95) _ _ (small-fits _ _) tt
 
   pub integer-fits : (i : ℕ) {v j : ℕ} → integer62 s i ≡ Value v j → v < 2 ^ 64
   integer-fits i e = rw e at (integer-fit i)
 
   pub life-fits : (i : ℕ) {v j : ℕ} → lifeAt s i ≡ Value v j → v < 2 ^ 64
   unfolding lifeAt
-  life-fits i e = rw e at (fits-either (eqb (past 76 s i) i) (Value 0 i) (integer62 s (past 76 s i)) (omega arith) (integer-fit (past 76 s i)))
+  life-fits i e = rw e at (either Fits (eqb (past 76 s i) i) (Value 0 i) (integer62 s (past 76 s i)) (omega arith) (integer-fit (past 76 s i)))

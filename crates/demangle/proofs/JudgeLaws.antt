@@ -1,20 +1,19 @@
 -- What `path`, `second`, `behind`, `reading`, `judged` and `judge` answer. Assumes nothing.
 use mathlib.Core.Path.{_≡_, refl, sym, ap, _∙_}
-use mathlib.Core.Bool.{Bool, true, false, not, _&&_, or-false}
+use mathlib.Core.Bool.{Bool, true, false, not}
 use mathlib.Core.List.{List, [], _∷_}
-use Prim.Native.Nat.{ℕ, zero, suc, _+_, _-_, _≤_, _<_}
+use Prim.Native.Nat.{ℕ, zero, suc, _-_, _≤_, _<_}
 use native.Mathlib.Omega.{arith}
 use borrow.Author.Needs.{needs}
 use borrow.Author.Tests.{not-true, not-false, eq-eqb, ne-eqb, lt-ltb, le-ltb}
-use lib.Dec.{leb, ltb, eqb, leb·zero}
+use lib.Dec.{leb, eqb, leb·zero}
 use lib.ListN.{length, getD, take, drop, length-drop}
 use lib.Seq.{take-all}
 use Rattle.parser.specs.Digits.{if-then}
-use Rattle.pieces.specs.Piece.{Piece, render}
+use Rattle.pieces.specs.Piece.{render}
 use Rattle.printer.specs.Says.{U, Res, ok, bad, Says}
-use Rattle.printer.specs.Lay.{State, stateOf, World, world, Out, out, at, lay, lays, laid, placeOf, errorOf, damageOf, doing}
+use Rattle.printer.specs.Lay.{State, stateOf, World, at, lay, lays, placeOf, errorOf, damageOf, doing}
 use Rattle.printer.specs.Model.{level}
-use Rattle.printer.proofs.LayLaws.{lays-open}
 use Rattle.demangle.specs.Accept.{levels, most, prefixOf, isUpper, allAscii, reachedOf, pathAt, secondAt, behindAt, readingOf, verdictBy, verdictAt, verdictOf}
 use Rattle.demangle.proofs.PrefixLaws.{prefix-within}
 use Rattle.demangle.specs.declared.judge.Reached.{Reached}

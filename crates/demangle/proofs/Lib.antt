@@ -3,6 +3,7 @@
 pub mod RunLaws
 pub mod ReadLaws
 pub mod SoundLaws
+pub mod ClosedLaws
 pub mod GrowLaws
 pub mod DerivationLaws
 pub mod CompleteLaws

@@ -1,18 +1,17 @@
 -- What Done, the suffix, whole and damaged mean, by the grammar and without the printer. Assumes nothing.
 use mathlib.Core.Path.{_≡_, refl, sym, ap, _∙_, subst}
-use mathlib.Core.Bool.{Bool, true, false, not, _&&_, true≢false}
+use mathlib.Core.Bool.{Bool, true, false, _&&_, true≢false}
 use mathlib.Core.List.{List}
 use Prim.Native.Nat.{ℕ, zero, suc, _+_, _≤_}
 use native.Mathlib.Omega.{arith}
-use borrow.Author.Tests.{ltb-false, eqb-false, le-ltb, ne-eqb, le-leb, not-true}
-use lib.Dec.{eqb, ltb, leb}
+use borrow.Author.Tests.{ltb-false, eqb-false, le-ltb, ne-eqb, le-leb}
+use lib.Dec.{eqb, ltb}
 use lib.ListN.{length, drop, getD}
 use Rattle.parser.specs.Digits.{if-then}
-use Rattle.pieces.specs.Piece.{Piece}
 use Rattle.printer.specs.Says.{U, Res, ok, bad}
-use Rattle.printer.specs.Model.{level, held}
+use Rattle.printer.specs.Model.{level}
 use Rattle.demangle.specs.Accept.{most, levels, prefixOf, isUpper, allAscii, reachedOf, pathAt, secondAt, behindAt, readingOf, verdictBy, verdictAt, verdictOf}
-use Rattle.demangle.specs.Rows.{numberBy, numberOf, suffixBy, suffixFrom, whole, damaged, Row, firstPath, textOf, soundly, shown, rowBy, rowOf}
+use Rattle.demangle.specs.Rows.{numberBy, numberOf, suffixBy, suffixFrom, whole, damaged, firstPath, textOf, soundly, shown, rowBy, rowOf}
 use Rattle.demangle.specs.Grammar.{path, check, sound, free, Reads}
 use Rattle.demangle.specs.Sound.{Ready, Behind, alone, second, Accepts, SoundTo}
 use Rattle.demangle.proofs.GrammarLaws as grammar

@@ -2,17 +2,16 @@
 use mathlib.Core.Path.{_≡_, refl, sym, ap, _∙_}
 use mathlib.Core.Bool.{Bool, true, false, not, true≢false}
 use mathlib.Core.List.{List, [], _∷_}
-use Prim.Native.Nat.{ℕ, zero, suc, _+_, _-_, _^_, _≤_, _<_}
+use Prim.Native.Nat.{ℕ, _+_, _-_, _^_, _≤_, _<_}
 use native.Mathlib.Omega.{arith}
 use borrow.Author.Needs.{needs}
 use mir.Val.{Fits}
 use mir.Syntax.{w64}
-use borrow.Author.Tests.{eq-eqb, ne-eqb}
+use borrow.Author.Tests.{ne-eqb}
 use lib.Dec.{leb, eqb}
 use lib.ListN.{length, getD, take, drop, length-drop}
 use lib.Seq.{take-all}
 use Rattle.parser.specs.Digits.{if-then}
-use Rattle.pieces.specs.Piece.{render}
 use Rattle.printer.specs.Says.{U, Res, ok, bad, Says}
 use Rattle.printer.specs.Over.{over}
 use Rattle.printer.specs.Lay.{State, stateOf, World, world, at, lay, lays, doing, fitted, fullState, text, placeOf, errorOf, damageOf, follows}
@@ -20,15 +19,12 @@ use Rattle.printer.specs.Model.{level}
 use Rattle.printer.proofs.OverLaws.{length-over}
 use Rattle.demangle.proofs.WithinLaws.{accepted-within}
 use Rattle.demangle.specs.Accept.{levels, verdictOf}
-use Rattle.demangle.specs.Rows.{checkNumber, numberBy, numberOf, suffixBy, suffixFrom, Row, Told, whole, damaged, answer, modeOf, firstPath, textOf, soundly, shown, rowBy, rowOf}
-use Rattle.demangle.specs.Part.{TailOf}
+use Rattle.demangle.specs.Rows.{checkNumber, numberBy, numberOf, suffixBy, suffixFrom, Row, whole, damaged, answer, modeOf, firstPath, textOf, soundly, shown, rowBy, rowOf}
 use Rattle.demangle.specs.declared.judge.Verdict.{Verdict}
 use Rattle.demangle.specs.declared.judge.Verdict.the-variants.{Accepted, Invalid as Refused, RecursedTooDeep as Deep, TooLong as Long}
-use Rattle.demangle.specs.declared.check.Checked.{Checked}
 use Rattle.demangle.specs.declared.check.Checked.the-variants.{Done as Passed, Invalid as NotPassed, RecursedTooDeep as TooDeep, TooLong as Longer}
 use Rattle.demangle.specs.declared.print.Mode.{Mode}
 use Rattle.demangle.specs.declared.print.Mode.the-variants.{Plain, Short}
-use Rattle.demangle.specs.declared.print.Printed.{Printed}
 use Rattle.demangle.specs.declared.print.Printed.the-variants.{Done, Invalid, RecursedTooDeep, TooLong, NoRoom}
 
 -- ---- the check; v is what was judged

@@ -1,15 +1,16 @@
 -- Where a reading ended lies within the symbol. Assumes nothing.
-use mathlib.Core.Path.{_≡_, refl, sym, ap, _∙_, subst}
-use mathlib.Core.Bool.{Bool, true, false, _&&_}
-use mathlib.Core.List.{List, [], _∷_}
-use Prim.Native.Nat.{ℕ, zero, suc, _+_, _-_, _≤_, _<_}
+use mathlib.Core.Path.{_≡_, refl, sym, _∙_, subst}
+use mathlib.Core.Bool.{false, _&&_}
+use mathlib.Core.List.{List}
+use Prim.Native.Nat.{ℕ, zero, suc, _+_, _-_, _≤_}
 use native.Mathlib.Omega.{arith}
 use lib.Dec.{eqb, ltb}
 use lib.ListN.{length, drop, getD, length-drop}
 use Rattle.parser.specs.Digits.{if-then}
 use Rattle.printer.specs.Says.{U, Res, ok, bad}
 use Rattle.printer.specs.Model.{level}
-use Rattle.demangle.proofs.EndLaws.{either, ends}
+use Rattle.demangle.proofs.ClosedLaws.{either}
+use Rattle.demangle.proofs.EndLaws.{ends}
 use Rattle.demangle.proofs.GrammarLaws.{checked}
 use Rattle.demangle.proofs.PrefixLaws.{prefix-within}
 use Rattle.demangle.specs.Accept.{levels, most, prefixOf, isUpper, allAscii, reachedOf, pathAt, secondAt, behindAt, readingOf, verdictBy, verdictAt, verdictOf}

@@ -1,5 +1,5 @@
 -- What the exported functions answer. Assumes nothing.
-use mathlib.Core.Path.{_≡_, refl, sym, ap, _∙_}
+use mathlib.Core.Path.{_≡_, refl, ap, _∙_}
 use mathlib.Core.Bool.{Bool, true, false}
 use mathlib.Core.List.{List, [], _∷_}
 use Prim.Native.Nat.{ℕ, zero, suc, _≤_, _<_}
@@ -8,7 +8,7 @@ use borrow.Author.Needs.{needs}
 use lib.ListN.{length, set}
 use Rattle.parser.specs.Digits.{if-then}
 use Rattle.printer.specs.Over.{over}
-use Rattle.demangle.specs.Rows.{checkNumber, numberOf, Told, whole, damaged, unknown, answer, rowOf}
+use Rattle.demangle.specs.Rows.{checkNumber, numberOf, whole, damaged, answer, rowOf}
 use Rattle.demangle.specs.declared.check.Checked.{Checked}
 use Rattle.demangle.specs.declared.check.Checked.the-variants.{Done as Passed, Invalid as NotPassed, RecursedTooDeep as TooDeep, TooLong as Longer}
 use Rattle.demangle.specs.declared.print.Mode.{Mode}
