@@ -2,7 +2,7 @@
  *
  * Each function takes any bytes. A pointer is followed by the number of elements behind it: the memory must be there, the two that are
  * written must overlap nothing else that is passed, and an empty one is any pointer but NULL with 0. Nothing is kept after a call, and
- * nothing is allocated. The archive needs the C library's memset. Calls nest with the symbol, 500 levels at most: leave them 512 KiB of stack.
+ * nothing is allocated. The archive needs the C library's memset. Calls nest with the symbol, 500 levels at most: leave them 1 MiB of stack.
  */
 #ifndef VAULT_H
 #define VAULT_H
