@@ -1,13 +1,13 @@
 -- The prefix, upper-case letters and ASCII: what `prefix`, `upper` and `ascii` answer. Assumes nothing.
 use mathlib.Core.Path.{_≡_, refl, sym, _∙_}
-use mathlib.Core.Bool.{Bool, true, false, true≢false}
+use mathlib.Core.Bool.{Bool, true, false, true≢false, and-true}
 use mathlib.Core.List.{List, [], _∷_}
 use Prim.Native.Nat.{ℕ, suc, _+_, _-_, _≤_, _<_}
 use native.Mathlib.Omega.{arith}
 use native.Mathlib.Numerals.{add-one}
 use borrow.Author.Needs.{needs}
-use borrow.Author.Tests.{le-leb, lt-leb, ne-eqb, lt-ltb, le-ltb}
-use lib.Dec.{leb, eqb}
+use borrow.Author.Tests.{le-leb, lt-leb, ne-eqb, lt-ltb, le-ltb, ltb-true, ltb-false}
+use lib.Dec.{leb, eqb, ltb}
 use lib.ListN.{length, getD, drop, drop-of-length-le}
 use lib.Seq.{drop-cons}
 use Rattle.parser.specs.Digits.{if-then}
@@ -87,25 +87,41 @@ module _ (b : ℕ) where
 
 pub ruleset upper-laws = (upper-below, upper-from, needs)
 
--- ---- ASCII: the bytes before a place are
-pub record Ascii (s : List ℕ) (i : ℕ) : Type 0 where
-  pub same : allAscii s ≡ allAscii (drop i s)
+-- ---- ASCII: the greatest byte before a place stands for all of them
+pub record Ascii (s : List ℕ) (i top : ℕ) : Type 0 where
+  pub same : allAscii s ≡ allAscii (top ∷ drop i s)
+
+-- of two bytes the greater counts
+module _ (a b : ℕ) (s : List ℕ) where
+  first-counts : b ≤ a → allAscii (a ∷ b ∷ s) ≡ allAscii (a ∷ s)
+  unfolding allAscii
+  first-counts h = go (ltb a 128) refl
+    where
+      go : (t : Bool) → ltb a 128 ≡ t → allAscii (a ∷ b ∷ s) ≡ allAscii (a ∷ s)
+      go true k = rw (k, lt-ltb b 128 (omega (arith, ltb-true a 128 k)))
+      go false k = rw k
+
+  second-counts : a < b → allAscii (a ∷ b ∷ s) ≡ allAscii (b ∷ s)
+  unfolding allAscii
+  second-counts h = go (ltb a 128) refl
+    where
+      go : (t : Bool) → ltb a 128 ≡ t → allAscii (a ∷ b ∷ s) ≡ allAscii (b ∷ s)
+      go true k = rw k
+      go false k = rw (k, le-ltb b 128 (omega (arith, ltb-false a 128 k)))
 
 module _ (s : List ℕ) where
-  pub ascii-start : Ascii s 0
-  ascii-start = record { same = refl }
+  pub ascii-start : Ascii s 0 0
+  ascii-start = record { same = unfold allAscii in refl }
 
-  module _ (i : ℕ) (before : Ascii s i) where
-    pub ascii-stop : i < length s → 128 ≤ getD s i 0 → false ≡ allAscii s
+  module _ (i top : ℕ) (before : Ascii s i top) where
+    pub ascii-keep : i < length s → getD s i 0 ≤ top → Ascii s (i + 1) top
+    ascii-keep h k = record { same = before .same ∙ rw (drop-cons s i 0 h, add-one) (first-counts top (getD s i 0) (drop (suc i) s) k) }
+
+    pub ascii-raise : i < length s → top < getD s i 0 → Ascii s (i + 1) (getD s i 0)
+    ascii-raise h k = record { same = before .same ∙ rw (drop-cons s i 0 h, add-one) (second-counts top (getD s i 0) (drop (suc i) s) k) }
+
+    pub ascii-end : length s ≤ i → ltb top 128 ≡ allAscii s
     unfolding allAscii
-    ascii-stop h k = sym (before .same ∙ rw (drop-cons s i 0 h, le-ltb (getD s i 0) 128 k))
+    ascii-end h = sym (before .same ∙ rw (drop-of-length-le s h) (and-true (ltb top 128)))
 
-    pub ascii-more : i < length s → getD s i 0 < 128 → Ascii s (i + 1)
-    unfolding allAscii
-    ascii-more h k = record { same = before .same ∙ rw (drop-cons s i 0 h, lt-ltb (getD s i 0) 128 k, add-one) }
-
-    pub ascii-end : length s ≤ i → true ≡ allAscii s
-    unfolding allAscii
-    ascii-end h = sym (before .same ∙ rw (drop-of-length-le s h))
-
-pub ruleset ascii-laws = (ascii-start, ascii-stop, ascii-more, ascii-end, needs)
+pub ruleset ascii-laws = (ascii-start, ascii-keep, ascii-raise, ascii-end, needs)

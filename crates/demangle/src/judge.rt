@@ -57,17 +57,19 @@ fn upper(b: u8) -> bool
     b <= b'Z'
 }
 
+// No early way out: so the compiler takes many bytes at a time.
 fn ascii(s: &[u8]) -> bool
     ensures { λ r. ⌜ r ≡ allAscii (now (s .entry)) ⌝ }
 {
     let mut i = 0;
+    let mut top: u8 = 0;
     while i < s.len() {
-        if s[i] >= 128 {
-            return false;
+        if s[i] > top {
+            top = s[i];
         }
         i += 1;
     }
-    true
+    top < 128
 }
 
 // A path read from a place, with nothing printed.

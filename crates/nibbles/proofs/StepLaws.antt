@@ -251,4 +251,12 @@ module _ (s : List ℕ) (at : ℕ) (r : Char) (read : r ≡ charAt s at) where
         let w = one-within s at (sym read ∙ known) in
         omega (arith, w .on, w .there)
 
-pub ruleset text-laws = (along-start, along-end, along-bad, along-on, along-less, needs)
+-- g is what `octet` answered: a byte that is a character by itself
+module _ (s : List ℕ) (at : ℕ) (g : Got) (read : g ≡ octetAt s at) (b : ℕ) (known : g ≡ Of b) (small : b < 0x80) where
+  pub along-ascii : Along s at → Along s (at + 2)
+  along-ascii = along-on s at (One b (at + 2)) (char-ascii s at g read b known small) b (at + 2) refl
+
+  pub ascii-less : length s - (at + 2) < length s - at
+  ascii-less = along-less s at (One b (at + 2)) (char-ascii s at g read b known small) b (at + 2) refl
+
+pub ruleset text-laws = (along-start, along-end, along-bad, along-on, along-less, octet-fits, along-ascii, ascii-less, needs)

@@ -143,6 +143,13 @@ pub fn is_text(s: &[u8]) -> bool
 {
     let mut at = 0;
     loop {
+        // most characters are one byte, which needs no more than this
+        if let Got::Of(b) = octet(s, at) {
+            if b < 0x80 {
+                at += 2;
+                continue;
+            }
+        }
         match char_at(s, at) {
             Char::One(_, next) => at = next,
             Char::End => return true,

@@ -1,13 +1,13 @@
--- The basic types: the tables of the code, by letter. Assumes nothing.
-use mathlib.Core.Path.{_≡_, refl, sym}
+-- The basic types: the tables of the code, by letter. Which letters they are is computed over all bytes. Assumes nothing.
+use mathlib.Core.Path.{_≡_, refl, sym, _∙_}
 use mathlib.Core.Bool.{Bool, true, false, not}
 use mathlib.Core.List.{List, [], _∷_}
-use Prim.Native.Nat.{ℕ, _+_, _-_, _≤_, _<_}
+use Prim.Native.Nat.{ℕ, _+_, _-_, _/_, _%_, _^_, _≤_, _<_}
 use Prim.Native.String.{String}
 use native.Mathlib.Omega.{arith}
 use borrow.Author.Needs.{needs}
-use borrow.Author.Tests.{eqb-true}
-use lib.Dec.{T, leb, leb→le, eqb}
+use borrow.Author.Tests.{ne-eqb}
+use lib.Dec.{T, eqb}
 use lib.ListN.{length, getD, take, drop}
 use Rattle.parser.specs.Digits.{if-then}
 use Rattle.pieces.specs.Laid.{Wrote}
@@ -15,48 +15,9 @@ use Rattle.pieces.specs.Words.{ascii}
 use Rattle.pieces.specs.Basic.{basic, among, nameIn, isBasic, basicName}
 use Rattle.pieces.specs.declared.put.Put.{Put}
 use Rattle.pieces.specs.declared.put.Put.the-variants.{Done}
-use Rattle.pieces.proofs.TableLaws.{both, both-left, both-right, every, at, Holds, entry-is, table-laws}
+use Rattle.pieces.proofs.TableLaws.{below, passes, Holds, entry-is, table-laws}
 use Rattle.pieces.proofs.WritingLaws.{clash, wrote-none}
 
--- ---- a basic type's letter is from `a` to `z`
-abbrev inside : ℕ → Bool
-inside c = both (leb 97 c) (leb c 122)
-
-abbrev all-inside : List (ℕ × String) → Bool
-all-inside [] = true
-all-inside (x ∷ xs) = both (inside (x .0)) (all-inside xs)
-
-among-inside : (c : ℕ) (xs : List (ℕ × String)) → T (all-inside xs) → among c xs ≡ true → T (inside c)
-unfolding among
-among-inside c [] t h = clash (cc)
-among-inside c (x ∷ xs) t h = go (λ k. among-inside c xs (both-right (inside (x .0)) (all-inside xs) t) k) (eqb (x .0) c) refl h
-  where
-    go : (among c xs ≡ true → T (inside c)) → (b : Bool) → eqb (x .0) c ≡ b → if-then b true (among c xs) ≡ true → T (inside c)
-    go r true e k = rw (eqb-true (x .0) c e) at (both-left (inside (x .0)) (all-inside xs) t)
-    go r false e k = r k
-
-module _ (c : ℕ) where
-  within : isBasic c ≡ true → (97 ≤ c) × (c ≤ 122)
-  unfolding isBasic basic
-  within h =
-      let t = among-inside c basic tt h in
-      (leb→le 97 c (both-left (leb 97 c) (leb c 122) t), leb→le c 122 (both-right (leb 97 c) (leb c 122) t))
-
-  -- any other byte is no basic type
-  outside : (isBasic c ≡ true → ⊥) → false ≡ isBasic c
-  outside n = go (isBasic c) refl
-    where
-      go : (b : Bool) → isBasic c ≡ b → false ≡ b
-      go true e = absurd (n e)
-      go false e = refl
-
-  pub before-a : c < 97 → false ≡ isBasic c
-  before-a h = outside (λ e. omega (arith, within e))
-
-  pub past-z : 26 ≤ c - 97 → false ≡ isBasic c
-  past-z h = outside (λ e. omega (arith, within e))
-
--- ---- the letters
 abbrev same : Bool → Bool → Bool
 same true b = b
 same false b = not b
@@ -67,16 +28,35 @@ same→eq true false t = absurd t
 same→eq false true t = absurd t
 same→eq false false t = refl
 
--- the letter at each place is the one of that number just where it names a type
-abbrev right : ℕ → ℕ → Bool
-right k x = same (eqb x (97 + k)) (isBasic (97 + k))
+-- a test that is said of each number below n is isBasic from a byte on
+tells : (f : ℕ → Bool) (from n : ℕ) → T (below (λ i. same (f i) (isBasic (from + i))) n) → (c : ℕ) → from ≤ c → c - from < n → f (c - from) ≡ isBasic c
+tells f from n t c l h =
+    let back : from + (c - from) ≡ c = omega arith in
+    rw back at (same→eq (f (c - from)) (isBasic (from + (c - from))) (passes (λ i. same (f i) (isBasic (from + i))) n t (c - from) h))
 
-pub letter-is : (letters : List ℕ) (c : ℕ) → 97 ≤ c → c - 97 < length letters → T (every right 0 letters) → eqb (getD letters (c - 97) 0) c ≡ isBasic c
-letter-is letters c l h t =
-    let back : 97 + (c - 97) ≡ c = omega arith in
-    rw back at (same→eq (eqb (getD letters (c - 97) 0) (97 + (c - 97))) (isBasic (97 + (c - 97))) (at right letters t (c - 97) h))
+-- ---- the letters
+module _ (c : ℕ) where
+  pub before-a : c < 97 → false ≡ isBasic c
+  unfolding isBasic among basic
+  before-a h = tells (λ i. false) 0 97 tt c (omega arith) (omega arith)
 
-pub ruleset is-basic-laws = (before-a, past-z, letter-is, needs)
+  pub past-z : c < 256 → 26 ≤ c - 97 → false ≡ isBasic c
+  unfolding isBasic among basic
+  past-z h k = tells (λ i. false) 123 133 tt c (omega arith) (omega arith)
+
+  module _ (l : 97 ≤ c) where
+    -- a bit for each
+    pub set-is : (set : ℕ) → c - 97 < 26 → T (below (λ i. same (eqb (set / 2 ^ i % 2) 1) (isBasic (97 + i))) 26) → eqb (set / 2 ^ (c - 97) % 2) 1 ≡ isBasic c
+    set-is set h t = tells (λ i. eqb (set / 2 ^ i % 2) 1) 97 26 t c l h
+
+    -- the letter at each place is the one of that number just where it names a type
+    pub letter-not : (letters : List ℕ) → (getD letters (c - 97) 0 ≡ c → ⊥) → c - 97 < length letters
+        → T (below (λ i. same (eqb (getD letters i 0) (97 + i)) (isBasic (97 + i))) (length letters)) → false ≡ isBasic c
+    letter-not letters n h t =
+        let back : 97 + (c - 97) ≡ c = omega arith in
+        sym (ne-eqb (getD letters (c - 97) 0) (97 + (c - 97)) (rw back n)) ∙ tells (λ i. eqb (getD letters i 0) (97 + i)) 97 (length letters) t c l h
+
+pub ruleset is-basic-laws = (before-a, past-z, set-is, needs)
 
 -- ---- the names
 name-none : (c : ℕ) (xs : List (ℕ × String)) → among c xs ≡ false → nameIn c xs ≡ []

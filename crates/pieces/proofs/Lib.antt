@@ -2,6 +2,7 @@
 pub mod Bench
 pub mod WritingLaws
 pub mod NumeralLaws
+pub mod PackedLaws
 pub mod TableLaws
 pub mod WordLaws
 pub mod BasicLaws

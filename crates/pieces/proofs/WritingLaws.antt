@@ -222,22 +222,29 @@ back-set e i b h =
     rw (take-all (length e - i) (drop i e) (omega (arith, length-drop i e)), drop-of-length-le (drop i e) {i = length e - i} (omega (arith, length-drop i e)), drop-cons e i 0 h, append-nil)
     (sym (set-split e i b h))
 
+module _ {whole left d e : List ℕ} {i : ℕ} (g : Going whole left d e i) {b : ℕ} {more : List ℕ} (s : left ≡ b ∷ more) where
+  size-left : length (rest e i) ≡ length e - i
+  size-left = ap length (take-all (length e - i) (drop i e) (omega (arith, length-drop i e))) ∙ length-drop i e
+
+  pub byte-stop : length e ≤ i → Wrote whole d e NoRoom
+  byte-stop k = rw back-same at (going-full g (byte-full b (rest e i) (omega (arith, size-left))) more s refl)
+
+  pub byte-next : i < length e → Going whole more d (set e i b) (i + 1)
+  byte-next k = rw (← back-set e i b k) (going-next g (byte-done b (rest e i) (omega (arith, size-left))) more s refl)
+
 module _ {whole d e : List ℕ} {i : ℕ} (g : Going whole (drop i whole) d e i) (n : ℕ) (size : length whole ≡ n) where
   pub copy-end : n ≤ i → Wrote whole d e (Done i)
   copy-end h = going-end g (drop-of-length-le whole {i = i} (omega arith))
 
   module _ (h : i < n) where
-    turn : drop i whole ≡ (getD whole i 0 ∷ []) ++ drop (i + 1) whole
+    turn : drop i whole ≡ getD whole i 0 ∷ drop (i + 1) whole
     turn = rw add-one (drop-cons whole i 0 (omega arith))
 
-    left : length (rest e i) ≡ length e - i
-    left = ap length (take-all (length e - i) (drop i e) (omega (arith, length-drop i e))) ∙ length-drop i e
-
     pub copy-full : length e ≤ i → Wrote whole d e NoRoom
-    copy-full k = rw back-same at (going-full g (byte-full (getD whole i 0) (rest e i) (omega (arith, left))) (drop (i + 1) whole) turn refl)
+    copy-full k = byte-stop g turn k
 
     pub copy-next : {b : ℕ} → b ≡ getD whole i 0 → i < length e → Going whole (drop (i + 1) whole) d (set e i b) (i + 1)
-    copy-next q k = rw (q, ← back-set e i (getD whole i 0) k) (going-next g (byte-done (getD whole i 0) (rest e i) (omega (arith, left))) (drop (i + 1) whole) turn refl)
+    copy-next q k = rw q (byte-next g turn k)
 
 pub getD-map-in : (f : ℕ → ℕ) (l : List ℕ) (i : ℕ) → i < length l → getD (map f l) i 0 ≡ f (getD l i 0)
 getD-map-in f [] i h = absurd (omega arith)

@@ -2,6 +2,7 @@
 pub mod Laid
 pub mod Words
 pub mod Numeral
+pub mod Packed
 pub mod Basic
 pub mod Quoted
 pub mod Names

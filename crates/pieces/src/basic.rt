@@ -1,4 +1,5 @@
-// The basic types: constant arrays of letters, starts and lengths over one run of name bytes.
+// The basic types: constant arrays of letters, starts and lengths over one run of name bytes; and, for the test that every type goes
+// through, their letters as a set. An array is stored anew wherever it is used: that is paid for a name, not for every type.
 use crate::put::Put;
 use crate::put::put_run;
 ghost use mathlib.Core.Path.{_≡_};
@@ -68,6 +69,9 @@ const LENGTHS: [u8; 26] = [
 
 const NAMES: [u8; 64] = *b"i8boolcharf64strf32u8isizeusizei32u32i128u128_i16u16()...i64u64!";
 
+// The same letters as a set: a bit for each, that of `a` the lowest.
+const SET: u64 = 0x3bcfbbf;
+
 // Whether a letter names a basic type.
 pub fn is_basic(tag: u8) -> bool
     ensures { λ r. ⌜ r ≡ isBasic tag ⌝ }
@@ -75,11 +79,11 @@ pub fn is_basic(tag: u8) -> bool
     if tag < 97 {
         return false;
     }
-    let k = (tag - 97) as usize;
+    let k = (tag - 97) as u64;
     if k >= 26 {
         return false;
     }
-    LETTERS[k] == tag
+    (SET >> k) % 2 == 1
 }
 
 // The name of the basic type that a letter names; nothing for another letter.
@@ -91,6 +95,9 @@ pub fn put_basic(out: &mut [u8], tag: u8) -> Put
     }
     let k = (tag - 97) as usize;
     if k >= 26 {
+        return Put::Done(0);
+    }
+    if LETTERS[k] != tag {
         return Put::Done(0);
     }
     let a = STARTS[k] as usize;

@@ -2,6 +2,7 @@
 ghost use mathlib.Core.Path.{_≡_};
 ghost use mathlib.Core.List.{[], _∷_, _++_};
 ghost use Rattle.pieces.specs.Laid.{Wrote};
+ghost use Rattle.pieces.specs.Packed.{bytesOf};
 ghost use Rattle.pieces.specs.Names.{dashed, abiText};
 
 // What a writer answers: how many bytes it wrote, or that the buffer was too short for them; then it is full of their first.
@@ -45,6 +46,23 @@ pub(crate) fn put_run_end(out: &mut [u8], run: &[u8], end: u8) -> Put
         return Put::NoRoom;
     };
     Put::Done(a + k)
+}
+
+// The bytes of a number of base 256, the lowest first, without those at the top that are 0: a short text that needs no memory.
+pub(crate) fn put_packed(out: &mut [u8], v: u64) -> Put
+    ensures { λ r. ⌜ Wrote (bytesOf v) (now (out .entry)) (now (out .exit)) r ⌝ }
+{
+    let mut i = 0;
+    let mut left = v;
+    while left != 0 {
+        if i >= out.len() {
+            return Put::NoRoom;
+        }
+        out[i] = (left % 256) as u8;
+        left = left / 256;
+        i += 1;
+    }
+    Put::Done(i)
 }
 
 // The bytes of an ABI's name, with `-` for `_`.

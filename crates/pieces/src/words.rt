@@ -1,7 +1,10 @@
-// The fixed words, both markers among them: one run of bytes, with the start and the length of each.
+// The fixed words, both markers among them, by number.
 use crate::put::Put;
+use crate::put::put_packed;
 use crate::put::put_run;
 ghost use Rattle.pieces.specs.Laid.{Wrote};
+ghost use mathlib.Core.Path.{_≡_};
+ghost use Rattle.pieces.specs.Packed.{packed};
 ghost use Rattle.pieces.specs.Words.{wordAt};
 
 pub const INVALID: usize = 0;
@@ -108,129 +111,73 @@ pub const FOR_END: usize = 50;
 
 pub const TICK: usize = 51;
 
-const STARTS: [u8; 52] = [
-    0,
-    16,
-    41,
-    42,
-    44,
-    47,
-    54,
-    58,
-    59,
-    60,
-    61,
-    62,
-    66,
-    67,
-    70,
-    72,
-    75,
-    76,
-    80,
-    87,
-    92,
-    93,
-    95,
-    96,
-    97,
-    98,
-    99,
-    106,
-    114,
-    116,
-    119,
-    123,
-    127,
-    131,
-    140,
-    143,
-    146,
-    149,
-    154,
-    155,
-    156,
-    161,
-    165,
-    166,
-    167,
-    170,
-    172,
-    174,
-    176,
-    177,
-    181,
-    183,
-];
-
-const LENGTHS: [u8; 52] = [
-    16,
-    25,
-    1,
-    2,
-    3,
-    7,
-    4,
-    1,
-    1,
-    1,
-    1,
-    4,
-    1,
-    3,
-    2,
-    3,
-    1,
-    4,
-    7,
-    5,
-    1,
-    2,
-    1,
-    1,
-    1,
-    1,
-    7,
-    8,
-    2,
-    3,
-    4,
-    4,
-    4,
-    9,
-    3,
-    3,
-    3,
-    5,
-    1,
-    1,
-    5,
-    4,
-    1,
-    1,
-    3,
-    2,
-    2,
-    2,
-    1,
-    4,
-    2,
-    1,
-];
-
-const RUN: [u8; 184] =
-    *b"{invalid syntax}{recursion limit reached}?::::{closureshim:#}< as >::<,  + &mut *const *mut [; ](,)unsafe extern \"\" fn( -> dyn  is #[splat]  = ..= | !null_-falsetrue{* { :  }0xCfor<> '";
+// A word of at most eight bytes as a number of base 256, its first byte the lowest; 0 for any other. Numbers and not byte strings: the
+// bytes of a constant are stored anew wherever it is used, and a table of words costs more than the word that is looked up.
+fn packed(k: usize) -> u64
+    ensures { λ r. ⌜ r ≡ packed (wordAt k) ⌝ }
+{
+    match k {
+        ASK => 0x3f,
+        COLONS => 0x3a3a,
+        SPECIAL => 0x7b3a3a,
+        CLOSURE => 0x657275736f6c63,
+        SHIM => 0x6d696873,
+        COLON => 0x3a,
+        HASH => 0x23,
+        CLOSE => 0x7d,
+        LESS => 0x3c,
+        AS => 0x20736120,
+        MORE => 0x3e,
+        VALUE_LESS => 0x3c3a3a,
+        COMMA_BLANK => 0x202c,
+        PLUS => 0x202b20,
+        REF => 0x26,
+        MUT => 0x2074756d,
+        PTR_CONST => 0x2074736e6f632a,
+        PTR_MUT => 0x2074756d2a,
+        BRACKET => 0x5b,
+        SEMICOLON => 0x203b,
+        BRACKET_END => 0x5d,
+        PAREN => 0x28,
+        COMMA => 0x2c,
+        PAREN_END => 0x29,
+        UNSAFE => 0x20656661736e75,
+        EXTERN => 0x22206e7265747865,
+        EXTERN_END => 0x2022,
+        FN => 0x286e66,
+        ARROW => 0x203e2d20,
+        DYN => 0x206e7964,
+        IS => 0x20736920,
+        EQUALS => 0x203d20,
+        RANGE => 0x3d2e2e,
+        OR => 0x207c20,
+        NULL => 0x6c6c756e21,
+        UNDERSCORE => 0x5f,
+        MINUS => 0x2d,
+        FALSE => 0x65736c6166,
+        TRUE => 0x65757274,
+        BRACE => 0x7b,
+        STAR => 0x2a,
+        FIELDS => 0x207b20,
+        FIELD => 0x203a,
+        FIELDS_END => 0x7d20,
+        HEX => 0x7830,
+        C => 0x43,
+        FOR => 0x3c726f66,
+        FOR_END => 0x203e,
+        TICK => 0x27,
+        _ => 0,
+    }
+}
 
 // The word of a number; there is none from 52 on.
 pub fn put_word(out: &mut [u8], k: usize) -> Put
     ensures { λ r. ⌜ Wrote (wordAt k) (now (out .entry)) (now (out .exit)) r ⌝ }
 {
-    if k >= 52 {
-        return Put::Done(0);
+    match k {
+        INVALID => put_run(out, b"{invalid syntax}"),
+        DEEP => put_run(out, b"{recursion limit reached}"),
+        SPLAT => put_run(out, b"#[splat] "),
+        _ => put_packed(out, packed(k)),
     }
-    let a = STARTS[k] as usize;
-    let n = LENGTHS[k] as usize;
-    let e = a + n;
-    let run = RUN;
-    put_run(out, &run[a..e])
 }

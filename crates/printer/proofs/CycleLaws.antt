@@ -695,24 +695,15 @@ pub choose-nothing : (m : ℕ) (t : Bool) (a : Says U) (v : World) → t ≡ fal
 unfolding choose
 choose-nothing m t a v h = rw h (sym (lay-nil m v))
 
--- a type, with its `w`: y is what `eat` answered
-module _ (m : ℕ) (s : List ℕ) (p : g.Level) (f : Bool) (b : ℕ) (o : List ℕ) (st mv : State) (x w : World) (y : ℕ) (free : st .full ≡ false) (none : st .error ≡ 0) (eaten : y ≡ past 119 s (st .place)) (there : mv ≡ movedTo y st) (shown : w ≡ lay m (p .bare f b) x) where
-  type-plain : y ≡ st .place → mv ≡ st → x ≡ world o mv → w ≡ lay m (g.type s p f b) (world o st)
+-- a type, with its `w`: y is what `eat` answered, x what is there before the type
+module _ (m : ℕ) (s : List ℕ) (p : g.Level) (f : Bool) (b : ℕ) (o : List ℕ) (st : State) (x w : World) (y : ℕ) (free : st .full ≡ false) (none : st .error ≡ 0) (eaten : y ≡ past 119 s (st .place)) (shown : w ≡ lay m (p .bare f b) x) where
+  pub type-bare : y ≡ st .place → x ≡ world o st → w ≡ lay m (g.type s p f b) (world o st)
   unfolding g.type choose
-  type-plain h j n = eat-no m s 119 _ o st w y free none eaten mv h j (shown ∙ ap (lay m (p .bare f b)) n)
+  type-bare h n = eat-no m s 119 _ o st w y free none eaten st h refl (shown ∙ ap (lay m (p .bare f b)) n)
 
-  type-splat : (y ≡ st .place → ⊥) → x ≡ lay m (emit (word W.splat ∷ [])) (world o mv) → w ≡ lay m (g.type s p f b) (world o st)
+  pub type-splat : (mv : State) → (y ≡ st .place → ⊥) → mv ≡ movedTo y st → x ≡ lay m (emit (word W.splat ∷ [])) (world o mv) → w ≡ lay m (g.type s p f b) (world o st)
   unfolding g.type choose
-  type-splat h q = eat-yes m s 119 _ o st w y free none eaten mv h there (arm-then m _ _ (world o mv) x w q shown)
-
-  pub type-is : x ≡ lay m (sayIf (not (eqb y (st .place))) W.splat) (world o mv) → w ≡ lay m (g.type s p f b) (world o st)
-  type-is q = go (eqb y (st .place)) refl
-    where
-      go : (k : Bool) → eqb y (st .place) ≡ k → w ≡ lay m (g.type s p f b) (world o st)
-      go true h = let i : y ≡ st .place = eqb-true y (st .place) h in type-plain i (there ∙ rw i) ((rw h at q) ∙ lay-nil m (world o mv))
-      go false h = type-splat (eqb-false y (st .place) h) (rw h at q)
-
-pub ruleset ty-laws = (type-stop, type-is)
+  type-splat mv h there q = eat-yes m s 119 _ o st w y free none eaten mv h there (arm-then m _ _ (world o mv) x w q shown)
 
 -- a reference: z is what `reference` answered
 module _ (m : ℕ) (s : List ℕ) (p : g.Level) (isMut f : Bool) (b : ℕ) (v : World) (t : Bool) (o : List ℕ) (st : State) (told : out t (world o st) ≡ lays false m (g.reference s isMut f b) v) where

@@ -50,6 +50,16 @@ pub ruleset pieces = (arm-pieces, arm-piece, tests, needs)
 -- ---- identifiers
 pub ruleset name-laws = (ascii-within, part-starts, part-ends, ascii-after, code-after, tests, needs)
 
+-- where nothing is printed, the name is read and that is all
+module _ (m : ℕ) (s : List ℕ) (o : List ℕ) (st mv : State) (x : Named) (d a b c q : ℕ) (off : m ≡ 0) (free : st .full ≡ false) (none : st .error ≡ 0) (answered : x ≡ namedAt s (st .place)) (known : x ≡ Called d a b c q) (there : mv ≡ movedTo q st) where
+  pub krate-off : world o mv ≡ lay m (g.krate s) (world o st)
+  unfolding g.krate
+  krate-off = named-next m o st mv (world o mv) s _ x d a b c q free none answered known there (sym (lay-off m _ (world o mv) off))
+
+  pub nested-off : (ns : ℕ) → world o mv ≡ lay m (g.nested s ns) (world o st)
+  unfolding g.nested
+  nested-off ns = named-next m o st mv (world o mv) s _ x d a b c q free none answered known there (sym (lay-off m _ (world o mv) off))
+
 module _ (m : ℕ) (s : List ℕ) (o : List ℕ) (st mv : State) (w : World) (x : Named) where
   pub krate-fails : st .error ≡ 0 → x ≡ namedAt s (st .place) → x ≡ NoNamed → mv ≡ st → w ≡ lay m broken (world o mv) → w ≡ lay m (g.krate s) (world o st)
   unfolding g.krate
@@ -59,7 +69,7 @@ module _ (m : ℕ) (s : List ℕ) (o : List ℕ) (st mv : State) (w : World) (x 
   unfolding g.krate
   krate-next d a b c q y u e h k l p r = named-next m o st mv w s _ x d a b c q u e h k l (arm-piece m _ _ (world o mv) y w p r)
 
-pub ruleset krate-laws = (krate-fails, krate-next, named-within, tests, needs)
+pub ruleset krate-laws = (krate-fails, krate-off, krate-next, named-within, tests, needs)
 
 module _ (m : ℕ) (s : List ℕ) (k a b c e : ℕ) (v : World) where
   pub empty-name : a ≡ e → v ≡ lay m (emit (g.unlessEmpty s k a b c e)) v
@@ -124,7 +134,7 @@ module _ (m : ℕ) (s : List ℕ) (ns : ℕ) (o : List ℕ) (st mv : State) (w :
     unfolding g.nested
     nested-special h p = named-next m o st mv w s _ x d a b c q free none answered known there (braced-name m s ns d a b c q (world o mv) w h p)
 
-pub ruleset nested-laws = (nested-stop, nested-fails, nested-plain, nested-special, named-within, tests, needs)
+pub ruleset nested-laws = (nested-stop, nested-fails, nested-off, nested-plain, nested-special, named-within, tests, needs)
 
 -- ---- lifetimes
 pub unbound-is : (m : ℕ) (v x w : World) → x ≡ lay m (emit (word W.tick ∷ [])) v → w ≡ lay m broken x → w ≡ lay m g.unbound v

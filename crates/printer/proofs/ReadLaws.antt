@@ -73,7 +73,14 @@ module _ (s : List ℕ) (at : ℕ) (n : Space) (answered : n ≡ spaceAt s at) w
 
 pub ruleset space-laws = (space-special, space-plain, space-none, needs)
 
--- ---- a disambiguator and an identifier: n is what `opt_integer_62` answered, m what `ident` answered
+-- ---- a disambiguator: y is what `eat` answered
+pub absent : (s : List ℕ) (at y : ℕ) → y ≡ past 115 s at → y ≡ at → Value 0 at ≡ optional62 115 s at
+unfolding optional62
+absent s at y e h = rw (eq-eqb (past 115 s at) at (sym e ∙ h))
+
+pub ruleset absent-laws = (absent, needs)
+
+-- ---- a disambiguator and an identifier: n is what `disambiguator` answered, m what `ident` answered
 module _ (s : List ℕ) (at : ℕ) (n : Num) (answered : n ≡ optional62 115 s at) where
   pub named-none : n ≡ NoNum → NoNamed ≡ namedAt s at
   unfolding namedAt

@@ -288,7 +288,7 @@ fn see(
     }
 }
 
-// A type, with an optional `w` before it.
+// A type, with an optional `w` before it. The place is set only where there is one: that it is kept is what the next read waits for.
 fn ty(s: &[u8], out: &mut [u8], st: &mut [usize; 4], left: usize, binder: u64, mode: u8)
     ensures { λ _. ⌜ at (now (out .exit)) (now (st .exit)) ≡ lay mode (g.type (now (s .entry)) (g.level (now (s .entry)) left) (follows mode) binder) (at (now (out .entry)) (now (st .entry))) ⌝ }
 {
@@ -298,8 +298,10 @@ fn ty(s: &[u8], out: &mut [u8], st: &mut [usize; 4], left: usize, binder: u64, m
     }
     let place = st[0];
     let behind = eat(s, place, b'w');
-    go(st, behind);
-    text::word_if(out, st, behind != place, words::SPLAT, mode);
+    if behind != place {
+        go(st, behind);
+        text::word(out, st, words::SPLAT, mode);
+    }
     bar(s, out, st, left, binder, mode);
 }
 
@@ -1052,7 +1054,7 @@ fn var(
     }
 }
 
-// Fields from a word to a word, and the brace behind them.
+// Fields from a word to a word, and the brace behind them. Not by way of `seq`, whose frame would stand at every level.
 fn fl(
     s: &[u8],
     out: &mut [u8],
@@ -1067,7 +1069,9 @@ fn fl(
 )
     ensures { λ _. ⌜ at (now (out .exit)) (now (st .exit)) ≡ lay mode (g.fields (now (s .entry)) (g.level (now (s .entry)) left) from item to value (follows mode) binder) (at (now (out .entry)) (now (st .entry))) ⌝ }
 {
-    seq(s, out, st, from, item, to, left, binder, mode);
+    text::word(out, st, from, mode);
+    ls(s, out, st, item, left, binder, mode);
+    text::word(out, st, to, mode);
     text::word_if(out, st, !value, words::CLOSE, mode);
 }
 

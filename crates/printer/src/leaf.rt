@@ -54,7 +54,7 @@ pub fn no_level(s: &[u8], out: &mut [u8], st: &mut [usize; 4], mode: u8)
     text::invalid(out, st, mode);
 }
 
-// A crate's name and number.
+// A crate's name and number. Where nothing is printed, only the place moves.
 pub fn krate(s: &[u8], out: &mut [u8], st: &mut [usize; 4], mode: u8)
     requires { ⌜ Going (stateOf (now st)) ⌝ }
     ensures { λ _. ⌜ at (now (out .exit)) (now (st .exit)) ≡ lay mode (g.krate (now (s .entry))) (at (now (out .entry)) (now (st .entry))) ⌝ }
@@ -64,6 +64,9 @@ pub fn krate(s: &[u8], out: &mut [u8], st: &mut [usize; 4], mode: u8)
         return;
     };
     go(st, e);
+    if mode == 0 {
+        return;
+    }
     name(s, out, st, a, b, c, e, mode);
     text::crate_number(out, st, d, mode);
 }
@@ -145,6 +148,9 @@ pub fn nested(s: &[u8], out: &mut [u8], st: &mut [usize; 4], ns: u8, mode: u8)
         return;
     };
     go(st, e);
+    if mode == 0 {
+        return;
+    }
     if ns == 0 {
         after_word(s, out, st, words::COLONS, a, b, c, e, mode);
         return;

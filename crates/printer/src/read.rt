@@ -12,6 +12,7 @@ use parser::number::hex_nibbles;
 use parser::number::integer_62;
 use parser::number::opt_integer_62;
 ghost use mathlib.Core.Path.{_≡_};
+ghost use Rattle.parser.specs.Number.{optional62};
 ghost use Rattle.printer.specs.Readings.{tagAt, markAt, letterAt, namedAt, lifeAt, abiAt, behindUnsafe, headAt, flagAt, scalarAt, literalAt};
 
 // The byte at a place, 0 past the end, and the place behind it.
@@ -61,6 +62,16 @@ pub fn space(s: &[u8], at: usize) -> Letter
     }
 }
 
+// A disambiguator. Most names have none, and this is small enough to stand where it is called.
+fn disambiguator(s: &[u8], at: usize) -> Num
+    ensures { λ r. ⌜ r ≡ optional62 115 (now (s .entry)) at ⌝ }
+{
+    if eat(s, at, b's') == at {
+        return Num::Value(0, at);
+    }
+    opt_integer_62(s, at, b's')
+}
+
 // A disambiguator and an identifier: the number, and the places of the parts, the last of which is the next place.
 pub enum Named {
     Of(u64, usize, usize, usize, usize),
@@ -70,7 +81,7 @@ pub enum Named {
 pub fn numbered(s: &[u8], at: usize) -> Named
     ensures { λ r. ⌜ r ≡ namedAt (now (s .entry)) at ⌝ }
 {
-    let Num::Value(d, next) = opt_integer_62(s, at, b's') else {
+    let Num::Value(d, next) = disambiguator(s, at) else {
         return Named::Invalid;
     };
     let Name::Parts(a, b, c, e) = ident(s, next) else {

@@ -13,12 +13,12 @@ cast-k c = search is-basic-laws
 returns-2 : tie.Need-returns-2
 returns-2 c = search is-basic-laws
 
-array-read-result : tie.Need-array-read-result
-array-read-result c = search is-basic-laws
+shr-result : tie.Need-shr-result
+shr-result c = search is-basic-laws
 
 returns-3 : tie.Need-returns-3
 unfolding isBasic among basic
 returns-3 c = search is-basic-laws
 
 pub is-basic-spec : {M : Type 1} → statement M
-is-basic-spec = tie.close (tie.spec returns cast-k returns-2 array-read-result returns-3)
+is-basic-spec = tie.close (tie.spec returns cast-k returns-2 shr-result returns-3)

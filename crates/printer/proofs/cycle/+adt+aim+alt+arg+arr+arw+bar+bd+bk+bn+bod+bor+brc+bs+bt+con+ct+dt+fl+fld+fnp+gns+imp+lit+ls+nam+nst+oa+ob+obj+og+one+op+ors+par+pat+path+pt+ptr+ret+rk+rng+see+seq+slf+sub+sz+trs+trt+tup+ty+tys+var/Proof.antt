@@ -256,7 +256,7 @@ pub +adt+aim+alt+arg+arr+arw+bar+bd+bk+bn+bod+bor+brc+bs+bt+con+ct+dt+fl+fld+fnp
     (λ t. dt-lts.spec (dt-is.calls t) (dt-at t) dt.Post
     (dt-is.element-copy-out-if1 t) (dt-is.word-requires t) (dt-is.same-length t) (dt-is.returns t) (dt-is.op-requires t) (dt-is.bs-requires t) (dt-is.same-length-2 t) (dt-is.returns-2 t))
     (λ t. fl-lts.spec (fl-is.calls t) (fl-at t) fl.Post
-    (fl-is.seq-requires t) (fl-is.word-if-requires t) (fl-is.same-length t) (fl-is.returns t))
+    (fl-is.word-requires t) (fl-is.ls-requires t) (fl-is.word-requires-2 t) (fl-is.word-if-requires t) (fl-is.same-length t) (fl-is.returns t))
     (λ t. fld-lts.spec (fld-is.calls t) (fld-at t) fld.Post
     (fld-is.element-copy-out-if1 t) (fld-is.word-requires t) (fld-is.same-length t) (fld-is.returns t) (fld-is.element-copy-out-numbered t) (fld-is.numbered-requires t) (fld-is.enum-known-a t) (fld-is.enum-told t) (fld-is.invalid-requires t) (fld-is.same-length-2 t) (fld-is.returns-2 t) (fld-is.go-requires t) (fld-is.field-name-requires t) (fld-is.con-requires t) (fld-is.same-length-3 t) (fld-is.returns-3 t))
     (λ t. fnp-lts.spec (fnp-is.calls t) (fnp-at t) fnp.Post
@@ -320,7 +320,7 @@ pub +adt+aim+alt+arg+arr+arw+bar+bd+bk+bn+bod+bor+brc+bs+bt+con+ct+dt+fl+fld+fnp
     (λ t. tup-lts.spec (tup-is.calls t) (tup-at t) tup.Post
     (tup-is.word-requires t) (tup-is.ls-requires t) (tup-is.comma-requires t) (tup-is.word-requires-2 t) (tup-is.same-length t) (tup-is.returns t))
     (λ t. ty-lts.spec (ty-is.calls t) (ty-at t) ty.Post
-    (ty-is.element-copy-out-if1 t) (ty-is.word-requires t) (ty-is.same-length t) (ty-is.returns t) (ty-is.element-copy-out-place t) (ty-is.eat-requires t) (ty-is.go-requires t) (ty-is.word-if-requires t) (ty-is.bar-requires t) (ty-is.same-length-2 t) (ty-is.returns-2 t))
+    (ty-is.element-copy-out-if1 t) (ty-is.word-requires t) (ty-is.same-length t) (ty-is.returns t) (ty-is.element-copy-out-place t) (ty-is.eat-requires t) (ty-is.go-requires t) (ty-is.word-requires-2 t) (ty-is.bar-requires t) (ty-is.same-length-2 t) (ty-is.returns-2 t))
     (λ t. tys-lts.spec (tys-is.calls t) (tys-at t) tys.Post
     (tys-is.element-copy-out-look t) (tys-is.look-requires t) (tys-is.go-requires t) (tys-is.bor-requires t) (tys-is.go-requires-2 t) (tys-is.bor-requires-2 t) (tys-is.go-requires-3 t) (tys-is.ptr-requires t) (tys-is.go-requires-4 t) (tys-is.ptr-requires-2 t) (tys-is.go-requires-5 t) (tys-is.arr-requires t) (tys-is.go-requires-6 t) (tys-is.arr-requires-2 t) (tys-is.go-requires-7 t) (tys-is.tup-requires t) (tys-is.go-requires-8 t) (tys-is.fnp-requires t) (tys-is.go-requires-9 t) (tys-is.obj-requires t) (tys-is.go-requires-10 t) (tys-is.bk-requires t) (tys-is.go-requires-11 t) (tys-is.sub-requires t) (tys-is.nam-requires t) (tys-is.same-length t) (tys-is.returns t) (tys-is.same-length-2 t) (tys-is.returns-2 t) (tys-is.same-length-3 t) (tys-is.returns-3 t) (tys-is.same-length-4 t) (tys-is.returns-4 t) (tys-is.same-length-5 t) (tys-is.returns-5 t) (tys-is.same-length-6 t) (tys-is.returns-6 t) (tys-is.same-length-7 t) (tys-is.returns-7 t) (tys-is.same-length-8 t) (tys-is.returns-8 t) (tys-is.same-length-9 t) (tys-is.returns-9 t) (tys-is.same-length-10 t) (tys-is.returns-10 t) (tys-is.same-length-11 t) (tys-is.returns-11 t) (tys-is.same-length-12 t) (tys-is.returns-12 t))
     (λ t. var-lts.spec (var-is.calls t) (var-at t) var.Post

@@ -27,6 +27,9 @@ returns c = search krate-laws
 go-requires : tie.Need-go-requires
 go-requires c κs = search krate-laws
 
+returns-2 : tie.Need-returns-2
+returns-2 c = search krate-laws
+
 name-requires : tie.Need-name-requires
 name-requires c κs = search krate-laws
 
@@ -36,8 +39,8 @@ crate-number-requires c κs = search krate-laws
 same-length-2 : tie.Need-same-length-2
 same-length-2 c = search krate-laws
 
-returns-2 : tie.Need-returns-2
-returns-2 c = search krate-laws
+returns-3 : tie.Need-returns-3
+returns-3 c = search krate-laws
 
 pub krate-spec : {M : Type 1} → statement M
 krate-spec =
@@ -51,7 +54,8 @@ krate-spec =
     same-length
     returns
     go-requires
+    returns-2
     name-requires
     crate-number-requires
     same-length-2
-    returns-2)
+    returns-3)

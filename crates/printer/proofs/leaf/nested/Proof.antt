@@ -39,14 +39,17 @@ returns-2 c = search nested-laws
 go-requires : tie.Need-go-requires
 go-requires c κs = search nested-laws
 
+returns-3 : tie.Need-returns-3
+returns-3 c = search nested-laws
+
 after-word-requires : tie.Need-after-word-requires
 after-word-requires c κs = search nested-laws
 
 same-length-3 : tie.Need-same-length-3
 same-length-3 c = search nested-laws
 
-returns-3 : tie.Need-returns-3
-returns-3 c = search nested-laws
+returns-4 : tie.Need-returns-4
+returns-4 c = search nested-laws
 
 special-requires : tie.Need-special-requires
 special-requires c κs = search nested-laws
@@ -54,8 +57,8 @@ special-requires c κs = search nested-laws
 same-length-4 : tie.Need-same-length-4
 same-length-4 c = search nested-laws
 
-returns-4 : tie.Need-returns-4
-returns-4 c = search nested-laws
+returns-5 : tie.Need-returns-5
+returns-5 c = search nested-laws
 
 pub nested-spec : {M : Type 1} → statement M
 nested-spec =
@@ -73,9 +76,10 @@ nested-spec =
     same-length-2
     returns-2
     go-requires
+    returns-3
     after-word-requires
     same-length-3
-    returns-3
+    returns-4
     special-requires
     same-length-4
-    returns-4)
+    returns-5)

@@ -3,8 +3,8 @@ use Rattle.printer.proofs.ReadLaws.{named-laws}
 use Rattle.printer.proofs.read.numbered.Statement.{statement}
 use Rattle.printer.proofs.read.numbered.Tie as tie
 
-opt-integer-62-requires : tie.Need-opt-integer-62-requires
-opt-integer-62-requires c κs = search named-laws
+disambiguator-requires : tie.Need-disambiguator-requires
+disambiguator-requires c κs = search named-laws
 
 enum-known-d : tie.Need-enum-known-d
 enum-known-d c = search named-laws
@@ -34,7 +34,7 @@ pub numbered-spec : {M : Type 1} → statement M
 numbered-spec =
     tie.close
     (tie.spec
-    opt-integer-62-requires
+    disambiguator-requires
     enum-known-d
     enum-told
     returns
