@@ -25,6 +25,7 @@ use Rattle.printer.specs.declared.read.Head.the-variants.{Of as Before}
 use Rattle.printer.specs.declared.read.Literal.the-variants.{Of as Spelt}
 use Rattle.printer.specs.declared.kinds.Item.{Item}
 use Rattle.printer.specs.declared.kinds.Item.the-variants.{Ty as AType, Arg, Expr as AValue, Field, Trait}
+use Rattle.printer.specs.Letters as ltr
 use Rattle.printer.specs.Model as g
 use Rattle.demangle.specs.Grammar as G
 use Rattle.demangle.specs.Grammar.{_!_, Part, path, type, bare, arg, const, pattern, trait, trait-path, bindings, field, many, types, args, consts}
@@ -71,7 +72,7 @@ module _ (s : List ℕ) where
   unfolding g.lifetime need reader
   lifetime-good f b i {v} {j} e u = taken-good _ _ _ (ap g.gotNum e) (life-good f b v j (integer-fits s i e) u)
 
-  bound-good : (f : Follow) (b i : ℕ) {v j : ℕ} → s ! i ≡ g.'L' → integer62 s (i + 1) ≡ Value v j → Bound f b v
+  bound-good : (f : Follow) (b i : ℕ) {v j : ℕ} → s ! i ≡ ltr.'L' → integer62 s (i + 1) ≡ Value v j → Bound f b v
       → Good (g.bound s (follows f) (g.held b) .run i) tt j
   unfolding g.bound g.boundLife need reader
   bound-good f b i {v} {j} e q u = eat-good s i _ _ e (taken-good _ _ _ (ap g.gotNum q) (end-life-good f b v j (integer-fits s (i + 1) q) u))
@@ -89,11 +90,11 @@ module _ (s : List ℕ) where
   unfolding g.uint need reader emit
   uint-good tag i {j = j} q = taken-good _ _ _ (hex-got s i q .1) (good tt j _)
 
-  int-good : (tag i : ℕ) {e j : ℕ} → hexAt s (past g.'n' s i) ≡ To e j → Good (g.int s tag .run i) tt j
+  int-good : (tag i : ℕ) {e j : ℕ} → hexAt s (past ltr.'n' s i) ≡ To e j → Good (g.int s tag .run i) tt j
   unfolding g.int emit _then_ _>>=_ next
-  int-good tag i {e} {j} q = go (eqb (s ! i) g.'n') refl
+  int-good tag i {e} {j} q = go (eqb (s ! i) ltr.'n') refl
     where
-      go : (t : Bool) → eqb (s ! i) g.'n' ≡ t → Good (g.int s tag .run i) tt j
+      go : (t : Bool) → eqb (s ! i) ltr.'n' ≡ t → Good (g.int s tag .run i) tt j
       go true h = let h′ = eqb-true _ _ h in eat-good s i _ _ h′ (say-good _ (uint-good tag (i + 1) (rw (found s _ i h′) at q)))
       go false h = let h′ = eqb-false _ _ h in eat-not-good s i _ _ h′ (uint-good tag i (rw (missing s _ i h′) at q))
 
@@ -105,13 +106,13 @@ module _ (s : List ℕ) where
   abbrev pub Lists : Says U → ℕ → ℕ → Type 0
   Lists m i j = (t k c : ℕ) → j ≤ i + k → (d : ℕ) × Good (g.listN s t m k c .run i) d j
 
-  end-good : (m : Says U) (i : ℕ) → s ! i ≡ g.'E' → Lists m i (i + 1)
+  end-good : (m : Says U) (i : ℕ) → s ! i ≡ ltr.'E' → Lists m i (i + 1)
   unfolding g.listN
   end-good m i e t zero c h = absurd (omega arith)
   end-good m i e t (suc k) c h = (c, past-good s _ i (λ j. ok c j false []) _ e (good c (i + 1) []))
 
-  more-good : (m : Says U) {i j l : ℕ} → s ! i ∉ g.'E' ∷ [] → Good (m .run i) tt j → i < j → j < l → Lists m j l → Lists m i l
-  unfolding g.listN g.anyOf emit _then_ _>>=_ next
+  more-good : (m : Says U) {i j l : ℕ} → s ! i ∉ ltr.'E' ∷ [] → Good (m .run i) tt j → i < j → j < l → Lists m j l → Lists m i l
+  unfolding g.listN ltr.anyOf emit _then_ _>>=_ next
   more-good m o h lt lt′ r t zero c q = absurd (omega arith)
   more-good m {i} o h lt lt′ r t (suc k) c q =
       let w = r t k (suc c) (omega arith) in
@@ -160,12 +161,12 @@ module _ (s : List ℕ) where
     abbrev turn : ℕ → Bool → ℕ → Res U
     turn c o j = (g.binding s p o f b >>= λ y. choose y (g.bindings s p c true f b) (emit [])) .run j
 
-    none-good : (i k : ℕ) (opened : Bool) → s ! i ≢ g.'p' → i < i + k → Good (g.bindings s p k opened f b .run i) tt i
+    none-good : (i k : ℕ) (opened : Bool) → s ! i ≢ ltr.'p' → i < i + k → Good (g.bindings s p k opened f b .run i) tt i
     unfolding g.bindings emit
     none-good i zero opened o h = absurd (omega arith)
     none-good i (suc k) opened o h = past-not-good s _ i (turn k opened) _ o (good tt i _)
 
-    bound-to-good : (i : ℕ) {x y z j k l : ℕ} → s ! i ≡ g.'p' → identAt s (i + 1) ≡ Parts x y z j → Good (g.boundTo s p f b .run j) tt k
+    bound-to-good : (i : ℕ) {x y z j k l : ℕ} → s ! i ≡ ltr.'p' → identAt s (i + 1) ≡ Parts x y z j → Good (g.boundTo s p f b .run j) tt k
         → i + 2 ≤ k → k ≤ l → ((c : ℕ) (o : Bool) → l < k + c → Good (g.bindings s p c o f b .run k) tt l)
         → (c : ℕ) (o : Bool) → l < i + c → Good (g.bindings s p c o f b .run i) tt l
     unfolding g.bindings g.binding g.boundName need reader emit give choose _then_ _>>=_ next
@@ -207,19 +208,19 @@ module _ (s : List ℕ) where
   Runs (many x) f n b i j = RunsMany x f n b i j
 
   -- ---- lists of each part
-  bars-end : (f : Bool) (n b i : ℕ) → s ! i ≡ g.'E' → RunsMany patterns f n b i (i + 1)
+  bars-end : (f : Bool) (n b i : ℕ) → s ! i ≡ ltr.'E' → RunsMany patterns f n b i (i + 1)
   unfolding g.alternatives
   bars-end f n b i e zero h = absurd (omega arith)
   bars-end f n b i e (suc k) h = past-good s _ i (λ j. ok tt j false []) _ e (good tt (i + 1) [])
 
-  bars-more : (f : Bool) (n b i : ℕ) {j l : ℕ} → s ! i ∉ g.'E' ∷ [] → Runs pattern f n b i j → i < j → j < l → RunsMany patterns f n b j l
+  bars-more : (f : Bool) (n b i : ℕ) {j l : ℕ} → s ! i ∉ ltr.'E' ∷ [] → Runs pattern f n b i j → i < j → j < l → RunsMany patterns f n b j l
       → RunsMany patterns f n b i l
-  unfolding g.alternatives g.anyOf emit _then_ _>>=_ next
+  unfolding g.alternatives ltr.anyOf emit _then_ _>>=_ next
   bars-more f n b i o h lt lt′ r zero q = absurd (omega arith)
   bars-more f n b i o h lt lt′ r (suc k) q =
       past-not-good s _ i (λ j. ok tt j false []) _ (λ e. rw e at o) (say-good _ (join _ h (r k (omega arith))))
 
-  many-end : (x : G.Item) (f : Bool) (n b i : ℕ) → s ! i ≡ g.'E' → RunsMany x f n b i (i + 1)
+  many-end : (x : G.Item) (f : Bool) (n b i : ℕ) → s ! i ≡ ltr.'E' → RunsMany x f n b i (i + 1)
   many-end types f n b i e = end-good _ i e
   many-end args f n b i e = end-good _ i e
   many-end consts f n b i e = end-good _ i e
@@ -257,10 +258,10 @@ module _ (s : List ℕ) where
       by-tag-good s tt [] i (g.basicOr s (λ c m j. refused tt tooDeep m)) (inside s isBasic i refl t) (rw (is-true (isBasic (s ! i)) t) (good tt (i + 1) _))
   basic-good f (suc n) b i t = type-good n f (g.held b) i (inside s isBasic i refl t) (rw (is-true (isBasic (s ! i)) t) (good tt (i + 1) _))
 
-  path-type-good : (f : Bool) (n b i : ℕ) {j : ℕ} → T (g.anyOf (s ! i) letters) → s ! i ≢ g.'B' → Runs path f n b i j → Runs bare f (suc n) b i j
-  unfolding g.basicOr g.typeTags g.anyOf isBasic basics.among basics.basic pick
-  path-type-good f n b i {j} t o h = type-good n f (g.held b) i (inside s (λ c. g.anyOf c letters) i refl t)
-      (any-of (λ c. c ≢ g.'B' → Good (g.basicOr s (other n f (g.held b)) c i (i + 1)) tt j) (s ! i) letters
+  path-type-good : (f : Bool) (n b i : ℕ) {j : ℕ} → T (ltr.anyOf (s ! i) letters) → s ! i ≢ ltr.'B' → Runs path f n b i j → Runs bare f (suc n) b i j
+  unfolding g.basicOr g.typeTags ltr.anyOf isBasic basics.among basics.basic pick
+  path-type-good f n b i {j} t o h = type-good n f (g.held b) i (inside s (λ c. ltr.anyOf c letters) i refl t)
+      (any-of (λ c. c ≢ ltr.'B' → Good (g.basicOr s (other n f (g.held b)) c i (i + 1)) tt j) (s ! i) letters
       (λ _. h false, (λ _. h false, (λ _. h false, (λ _. h false, (λ _. h false, (λ _. h false, (λ o′. absurd (o′ refl), tt))))))) t o)
 
   abbrev constant : ℕ → Bool → Bool → ℕ → ℕ → ℕ → Res U
@@ -271,67 +272,67 @@ module _ (s : List ℕ) where
   unfolding g.level
   const-tag n value f b i e h = by-tag-good s tt _ i (g.integer s) (at s _ e) (rw e h)
 
-  unsigned-good : (f : Bool) (n b i : ℕ) {e j : ℕ} → T (g.isUnsigned (s ! i)) → hexAt s (i + 1) ≡ To e j → Runs const f (suc n) b i j
-  unfolding g.level g.constTags g.integer g.isUnsigned g.anyOf pick
-  unsigned-good f n b i {j = j} t q value = by-tag-good s tt _ i (g.integer s) (inside s g.isUnsigned i refl t)
-      (any-of (λ c. Good (constant n value f (g.held b) i c) tt j) (s ! i) (g.'h' ∷ g.'j' ∷ g.'m' ∷ g.'o' ∷ g.'t' ∷ g.'y' ∷ [])
-      (u g.'h', (u g.'j', (u g.'m', (u g.'o', (u g.'t', (u g.'y', tt)))))) t)
+  unsigned-good : (f : Bool) (n b i : ℕ) {e j : ℕ} → T (ltr.isUnsigned (s ! i)) → hexAt s (i + 1) ≡ To e j → Runs const f (suc n) b i j
+  unfolding g.level g.constTags g.integer ltr.isUnsigned ltr.anyOf pick
+  unsigned-good f n b i {j = j} t q value = by-tag-good s tt _ i (g.integer s) (inside s ltr.isUnsigned i refl t)
+      (any-of (λ c. Good (constant n value f (g.held b) i c) tt j) (s ! i) (ltr.'h' ∷ ltr.'j' ∷ ltr.'m' ∷ ltr.'o' ∷ ltr.'t' ∷ ltr.'y' ∷ [])
+      (u ltr.'h', (u ltr.'j', (u ltr.'m', (u ltr.'o', (u ltr.'t', (u ltr.'y', tt)))))) t)
     where
       u : (c : ℕ) → Good (g.uint s c .run (i + 1)) tt j
       u c = uint-good c (i + 1) q
 
-  signed-good : (f : Bool) (n b i : ℕ) {e j : ℕ} → T (g.isSigned (s ! i)) → hexAt s (past g.'n' s (i + 1)) ≡ To e j → Runs const f (suc n) b i j
-  unfolding g.level g.constTags g.integer g.isUnsigned g.isSigned g.anyOf pick
-  signed-good f n b i {j = j} t q value = by-tag-good s tt _ i (g.integer s) (inside s g.isSigned i refl t)
-      (any-of (λ c. Good (constant n value f (g.held b) i c) tt j) (s ! i) (g.'a' ∷ g.'i' ∷ g.'l' ∷ g.'n' ∷ g.'s' ∷ g.'x' ∷ [])
-      (u g.'a', (u g.'i', (u g.'l', (u g.'n', (u g.'s', (u g.'x', tt)))))) t)
+  signed-good : (f : Bool) (n b i : ℕ) {e j : ℕ} → T (ltr.isSigned (s ! i)) → hexAt s (past ltr.'n' s (i + 1)) ≡ To e j → Runs const f (suc n) b i j
+  unfolding g.level g.constTags g.integer ltr.isUnsigned ltr.isSigned ltr.anyOf pick
+  signed-good f n b i {j = j} t q value = by-tag-good s tt _ i (g.integer s) (inside s ltr.isSigned i refl t)
+      (any-of (λ c. Good (constant n value f (g.held b) i c) tt j) (s ! i) (ltr.'a' ∷ ltr.'i' ∷ ltr.'l' ∷ ltr.'n' ∷ ltr.'s' ∷ ltr.'x' ∷ [])
+      (u ltr.'a', (u ltr.'i', (u ltr.'l', (u ltr.'n', (u ltr.'s', (u ltr.'x', tt)))))) t)
     where
       u : (c : ℕ) → Good (g.int s c .run (i + 1)) tt j
       u c = int-good c (i + 1) q
 
   -- ---- by the tag, without a level
   arg-tag : (p : g.Level) (f : Bool) (b i : ℕ) {c j : ℕ} → s ! i ≡ c
-      → Good (pick c ((g.'L', g.lifetime s f b) ∷ (g.'K', p .con false f b) ∷ []) (g.type s p f b .run) i (i + 1)) tt j → Good (g.arg s p f b .run i) tt j
-  unfolding g.arg g.anyOf
+      → Good (pick c ((ltr.'L', g.lifetime s f b) ∷ (ltr.'K', p .con false f b) ∷ []) (g.type s p f b .run) i (i + 1)) tt j → Good (g.arg s p f b .run i) tt j
+  unfolding g.arg ltr.anyOf
   arg-tag p f b i e h = rw (or-tag s tt _ i (g.type s p f b .run) tt, e) h
 
   arg-type : (p : g.Level) (f : Bool) (b i : ℕ) {j : ℕ} → s ! i ∉ never type → Good (g.type s p f b .run i) tt j → Good (g.arg s p f b .run i) tt j
-  unfolding g.anyOf
+  unfolding ltr.anyOf
   arg-type p f b i o h = arg-tag p f b i refl (pick-good (s ! i) i _ _ _
-      (add-none (s ! i) g.'L' (g.'K' ∷ []) (λ e. rw e at o) (add-none (s ! i) g.'K' [] (λ e. rw e at o) tt)) h)
+      (add-none (s ! i) ltr.'L' (ltr.'K' ∷ []) (λ e. rw e at o) (add-none (s ! i) ltr.'K' [] (λ e. rw e at o) tt)) h)
 
   pat-tag : (p : g.Level) (f : Bool) (b i : ℕ) {j k : ℕ} → s ! i ≡ suc k
-      → Good (pick (suc k) ((g.'R', g.range s p f b) ∷ (g.'O', p .ors f b) ∷ (g.'N', g.say W.null) ∷ []) (λ m. refused tt invalid m) i (i + 1)) tt j
+      → Good (pick (suc k) ((ltr.'R', g.range s p f b) ∷ (ltr.'O', p .ors f b) ∷ (ltr.'N', g.say W.null) ∷ []) (λ m. refused tt invalid m) i (i + 1)) tt j
       → Good (g.pat s p f b .run i) tt j
   unfolding g.pat
   pat-tag p f b i e h = by-tag-good s tt _ i g.unknown (at s _ e) (rw e h)
 
   open-tag : (p : g.Level) (f : Bool) (b i : ℕ) {c j : ℕ} {o : Bool} → s ! i ≡ c
-      → Good (pick c ((g.'B', g.openBack s p f b) ∷ (g.'I', g.openGeneric s p f b) ∷ []) (g.shutPath s p f b .run) i (i + 1)) o j
+      → Good (pick c ((ltr.'B', g.openBack s p f b) ∷ (ltr.'I', g.openGeneric s p f b) ∷ []) (g.shutPath s p f b .run) i (i + 1)) o j
       → Good (g.openPath s p f b .run i) o j
-  unfolding g.openPath g.anyOf
+  unfolding g.openPath ltr.anyOf
   open-tag p f b i e h = rw (or-tag s false _ i (g.shutPath s p f b .run) tt, e) h
 
-  shut-good : (p : g.Level) (f : Bool) (b i : ℕ) {j : ℕ} → s ! i ≢ g.'B' → s ! i ≢ g.'I' → Good (p .path false f b .run i) tt j
+  shut-good : (p : g.Level) (f : Bool) (b i : ℕ) {j : ℕ} → s ! i ≢ ltr.'B' → s ! i ≢ ltr.'I' → Good (p .path false f b .run i) tt j
       → Good (g.openPath s p f b .run i) false j
-  unfolding g.shutPath g.anyOf give _then_ _>>=_
+  unfolding g.shutPath ltr.anyOf give _then_ _>>=_
   shut-good p f b i {j} o o′ h = open-tag p f b i refl (pick-good (s ! i) i _ _ _
-      (add-none (s ! i) g.'B' (g.'I' ∷ []) o (add-none (s ! i) g.'I' [] o′ tt)) (join _ h (good false j _)))
+      (add-none (s ! i) ltr.'B' (ltr.'I' ∷ []) o (add-none (s ! i) ltr.'I' [] o′ tt)) (join _ h (good false j _)))
 
   variant-tag : (p : g.Level) (value f : Bool) (b i : ℕ) {j k : ℕ} → s ! i ≡ suc k
-      → Good (pick (suc k) ((g.'U', g.sayIf (not value) W.close) ∷ (g.'T', g.fields s p W.paren AValue W.paren-end value f b)
-      ∷ (g.'S', g.fields s p W.fields Field W.fields-end value f b) ∷ []) (λ m. refused tt invalid m) i (i + 1)) tt j
+      → Good (pick (suc k) ((ltr.'U', g.sayIf (not value) W.close) ∷ (ltr.'T', g.fields s p W.paren AValue W.paren-end value f b)
+      ∷ (ltr.'S', g.fields s p W.fields Field W.fields-end value f b) ∷ []) (λ m. refused tt invalid m) i (i + 1)) tt j
       → Good (g.variant s p value f b .run i) tt j
   unfolding g.variant
   variant-tag p value f b i e h = by-tag-good s tt _ i g.unknown (at s _ e) (rw e h)
 
   -- ---- function pointers and trait objects, whose binders are held
-  result-good : (p : g.Level) (f : Bool) (b i : ℕ) {j : ℕ} → Good (g.type s p f b .run i) tt j → (s ! i ≡ g.'u' → j ≡ i + 1)
+  result-good : (p : g.Level) (f : Bool) (b i : ℕ) {j : ℕ} → Good (g.type s p f b .run i) tt j → (s ! i ≡ ltr.'u' → j ≡ i + 1)
       → Good (g.result s p f b .run i) tt j
   unfolding g.result g.arrow emit _then_ _>>=_ next
-  result-good p f b i {j} h k = go (eqb (s ! i) g.'u') refl
+  result-good p f b i {j} h k = go (eqb (s ! i) ltr.'u') refl
     where
-      go : (t : Bool) → eqb (s ! i) g.'u' ≡ t → Good (g.result s p f b .run i) tt j
+      go : (t : Bool) → eqb (s ! i) ltr.'u' ≡ t → Good (g.result s p f b .run i) tt j
       go true e = rw (k (eqb-true _ _ e)) (eat-good s i _ _ (eqb-true _ _ e) (good tt (i + 1) _))
       go false e = eat-not-good s i _ _ (eqb-false _ _ e) (say-good _ h)
 
@@ -340,12 +341,12 @@ module _ (s : List ℕ) where
   unfolding g.signature g.parameters choose emit _then_ _>>=_ next
   signature-good p f b i e h le r = join _ (head-good i e) (join _ (items-good p f b AType _ h le .1) (say-good _ r))
 
-  function-good : (p : g.Level) (f : Bool) (b i : ℕ) {m j k : ℕ} → optional62 g.'G' s i ≡ Value m j → Good (g.signature s p f (g.held (b + m)) .run j) tt k
+  function-good : (p : g.Level) (f : Bool) (b i : ℕ) {m j k : ℕ} → optional62 ltr.'G' s i ≡ Value m j → Good (g.signature s p f (g.held (b + m)) .run j) tt k
       → Good (g.function s p f (g.held b) .run i) tt k
   unfolding g.function need reader emit _then_ _>>=_ next
   function-good p f b i {m} e h = taken-good _ _ _ (ap g.gotNum e) (rw (held-sum b m) (say-good _ h))
 
-  object-good : (p : g.Level) (f : Bool) (b i : ℕ) {m j k l : ℕ} → optional62 g.'G' s i ≡ Value m j → Lists (g.element s p Trait f (g.held (b + m))) j k
+  object-good : (p : g.Level) (f : Bool) (b i : ℕ) {m j k l : ℕ} → optional62 ltr.'G' s i ≡ Value m j → Lists (g.element s p Trait f (g.held (b + m))) j k
       → k ≤ length s → Good (g.bound s f (g.held b) .run k) tt l → Good (g.object s p f (g.held b) .run i) tt l
   unfolding g.object g.traits need reader emit _then_ _>>=_ next
   object-good p f b i {m} {k = k} e h le r =
@@ -357,26 +358,26 @@ module _ (s : List ℕ) where
   or-good f n b i h r le = join _ h (r (length s) (omega arith))
 
   -- ---- back references: only read, and followed
-  back-good : {p q : Part} {n m : ℕ} → Leads p q n m → (b i v j : ℕ) → s ! i ≡ g.'B' → backAt s (i + 1) ≡ Target v j → Runs p false n b i j
+  back-good : {p q : Part} {n m : ℕ} → Leads p q n m → (b i v j : ℕ) → s ! i ≡ ltr.'B' → backAt s (i + 1) ≡ Target v j → Runs p false n b i j
   unfolding g.pathTags g.typeTags g.constTags g.level g.back g.openBack g.target need reader isBasic basics.among basics.basic pick
   back-good (G.to-path {m}) b i v j e q = λ value. path-tag (suc m) value false _ i e (taken-good _ _ _ (ap g.gotBack q) (good tt j _))
   back-good (G.to-type {m}) b i v j e q = type-tag (suc m) false _ i e refl (taken-good _ _ _ (ap g.gotBack q) (good tt j _))
   back-good (G.to-const {m}) b i v j e q = λ value. const-tag (suc m) value false _ i e (taken-good _ _ _ (ap g.gotBack q) (good tt j _))
   back-good (G.to-trait {m}) b i v j e q = (false, open-tag (g.level s (suc m)) false _ i e (taken-good _ _ _ (ap g.gotBack q) (good false j _)))
 
-  followed-path : (m b i v j k : ℕ) (value : Bool) → s ! i ≡ g.'B' → backAt s (i + 1) ≡ Target v j → Runs path true m b v k
+  followed-path : (m b i v j k : ℕ) (value : Bool) → s ! i ≡ ltr.'B' → backAt s (i + 1) ≡ Target v j → Runs path true m b v k
       → Good (g.level s (suc (suc m)) .path value true (g.held b) .run i) tt j
   unfolding g.pathTags g.level g.back g.target g.says need reader pick
   followed-path m b i v j k true e q h = path-tag (suc m) true true _ i e (taken-good _ _ _ (ap g.gotBack q) (caught-good j (h true)))
   followed-path m b i v j k false e q h = path-tag (suc m) false true _ i e (taken-good _ _ _ (ap g.gotBack q) (caught-good j (h false)))
 
-  followed-const : (m b i v j k : ℕ) (value : Bool) → s ! i ≡ g.'B' → backAt s (i + 1) ≡ Target v j → Runs const true m b v k
+  followed-const : (m b i v j k : ℕ) (value : Bool) → s ! i ≡ ltr.'B' → backAt s (i + 1) ≡ Target v j → Runs const true m b v k
       → Good (g.level s (suc (suc m)) .con value true (g.held b) .run i) tt j
   unfolding g.constTags g.level g.back g.target g.says need reader pick
   followed-const m b i v j k true e q h = const-tag (suc m) true true _ i e (taken-good _ _ _ (ap g.gotBack q) (caught-good j (h true)))
   followed-const m b i v j k false e q h = const-tag (suc m) false true _ i e (taken-good _ _ _ (ap g.gotBack q) (caught-good j (h false)))
 
-  followed-good : {p q : Part} {n m : ℕ} → Leads p q n m → (b i v j k : ℕ) → s ! i ≡ g.'B' → backAt s (i + 1) ≡ Target v j → Runs q true m b v k
+  followed-good : {p q : Part} {n m : ℕ} → Leads p q n m → (b i v j k : ℕ) → s ! i ≡ ltr.'B' → backAt s (i + 1) ≡ Target v j → Runs q true m b v k
       → Runs p true n b i j
   unfolding g.typeTags g.level g.back g.openBack g.target g.says need reader isBasic basics.among basics.basic pick
   followed-good (G.to-path {m}) b i v j k e q h = λ value. followed-path m b i v j k value e q h
@@ -385,16 +386,16 @@ module _ (s : List ℕ) where
   followed-good (G.to-trait {m}) b i v j k e q h = (h .0, open-tag (g.level s (suc m)) true _ i e (taken-good _ _ _ (ap g.gotBack q) (caught-good j (h .1))))
 
   -- a return type that is written `u` is a basic type
-  unit-good : (f : Bool) (n b i : ℕ) {j : ℕ} → Runs type f n b i j → s ! i ≡ g.'u' → j ≡ i + 1
+  unit-good : (f : Bool) (n b i : ℕ) {j : ℕ} → Runs type f n b i j → s ! i ≡ ltr.'u' → j ≡ i + 1
   unfolding g.type isBasic basics.among basics.basic
   unit-good f n b i h e =
-      let o : s ! i ≢ g.'w' = λ w. omega arith in
+      let o : s ! i ≢ ltr.'w' = λ w. omega arith in
       same-end h (eat-not-good s i _ _ o (basic-good f n b i (rw e tt)))
 
   pub complete : {p : Part} {f : Follow} {n b i j : ℕ} → Reads s p f n b i j → Runs p (follows f) n b i j
   unfolding g.pathTags g.krate g.nest g.nested g.imp g.generic g.type g.typeTags g.refer g.pointer g.array g.size g.patterned g.range g.openGeneric
       g.boundTo g.field g.element g.constTags g.boolean g.character g.bodyBy g.unsizedLiteral g.refConst g.adt mute onError need reader choose emit give
-      _then_ _>>=_ next onto isBasic basics.among basics.basic g.anyOf pick
+      _then_ _>>=_ next onto isBasic basics.among basics.basic ltr.anyOf pick
   complete (G.crate-root {j = j} e q) = λ value. path-tag _ value _ _ _ e (taken-good _ _ _ (ap g.gotNamed q) (good tt j _))
   complete (G.inherent-impl e d r q) = λ value. path-tag _ value _ _ _ e (taken-good _ _ _ (ap g.gotNum d)
       (join _ (hush-good (complete r false)) (self-good _ _ _ _ (complete q))))
@@ -446,14 +447,14 @@ module _ (s : List ℕ) where
   complete (G.null-pattern {i = i} e) = pat-tag _ _ _ _ e (good tt (i + 1) _)
   complete (G.const-binding {i = i} {j = j} e q e′ r t) = bound-to-good _ _ _ i e q (eat-good s j _ _ e′ (complete r false))
       (omega (arith, ident-grows s q, grows s r)) (omega (arith, grows s t)) (complete t)
-  complete (G.string-const {i = i} e q) = λ value. const-tag _ value _ _ _ e (braced-good _ _ _ g.'e' value (i + 1) (say-good _ (literal-good (i + 1) q)))
+  complete (G.string-const {i = i} e q) = λ value. const-tag _ value _ _ _ e (braced-good _ _ _ ltr.'e' value (i + 1) (say-good _ (literal-good (i + 1) q)))
   complete (G.string-ref-const {i = i} e e′ q) = λ value. const-tag _ value _ _ _ e (eat-good s (i + 1) _ _ e′ (literal-good (i + 1 + 1) q))
   complete (G.ref-const {i = i} e o r) =
-      λ value. const-tag _ value _ _ _ e (eat-not-good s (i + 1) _ _ o (braced-good _ _ _ g.'R' value _ (refer-to-good _ _ _ false _ (complete r true))))
-  complete (G.mut-ref-const {i = i} e r) = λ value. const-tag _ value _ _ _ e (braced-good _ _ _ g.'Q' value _ (refer-to-good _ _ _ true _ (complete r true)))
-  complete (G.array-const e r) = λ value. const-tag _ value _ _ _ e (braced-good _ _ _ g.'A' value _
+      λ value. const-tag _ value _ _ _ e (eat-not-good s (i + 1) _ _ o (braced-good _ _ _ ltr.'R' value _ (refer-to-good _ _ _ false _ (complete r true))))
+  complete (G.mut-ref-const {i = i} e r) = λ value. const-tag _ value _ _ _ e (braced-good _ _ _ ltr.'Q' value _ (refer-to-good _ _ _ true _ (complete r true)))
+  complete (G.array-const e r) = λ value. const-tag _ value _ _ _ e (braced-good _ _ _ ltr.'A' value _
       (between-good _ _ _ _ AValue _ _ (complete r) (list-ends s r)))
-  complete (G.tuple-const e r) = λ value. const-tag _ value _ _ _ e (braced-good _ _ _ g.'T' value _
+  complete (G.tuple-const e r) = λ value. const-tag _ value _ _ _ e (braced-good _ _ _ ltr.'T' value _
       (tuple-good _ _ _ AValue _ (complete r) (list-ends s r)))
   complete (G.unit-const {j = j} e r e′) = λ value. const-tag _ value _ _ _ e (say-good _ (join _ (complete r true)
       (variant-tag _ value _ _ _ e′ (good tt (j + 1) _))))

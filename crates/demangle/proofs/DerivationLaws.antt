@@ -17,7 +17,7 @@ use Rattle.pieces.specs.Basic as basics
 use Rattle.pieces.specs.Basic.{isBasic}
 use Rattle.printer.specs.Readings.{namedAt}
 use Rattle.printer.specs.declared.read.Named.the-variants.{Of as Called}
-use Rattle.printer.specs.Model as g
+use Rattle.printer.specs.Letters as ltr
 use Rattle.demangle.specs.Grammar as G
 use Rattle.demangle.specs.Grammar.{_!_, Item, Part, path, type, bare, arg, const, pattern, trait, trait-path, bindings, field, many, Follow, Leads}
 use Rattle.demangle.specs.Grammar.{Reads}
@@ -76,7 +76,7 @@ module _ (s : List ℕ) where
   grows (G.no-binding o) = omega arith
   grows (G.type-binding e q r t) = omega (arith, ident-grows s q, grows r, grows t)
   grows (G.unsigned-const t q) = omega (arith, nibbles-grow s q)
-  grows (G.signed-const {i = i} t q) = omega (arith, past-grows s g.'n' (i + 1), nibbles-grow s q)
+  grows (G.signed-const {i = i} t q) = omega (arith, past-grows s ltr.'n' (i + 1), nibbles-grow s q)
   grows (G.bool-const e q) = omega (arith, flag-grows-to s q)
   grows (G.char-const e q) = omega (arith, scalar-grows-to s q)
   grows (G.placeholder e) = omega arith
@@ -101,24 +101,24 @@ module _ (s : List ℕ) where
 
 -- ---- first bytes: those of a path, and bytes that no derivation of a part starts with
 abbrev pub letters : List ℕ
-letters = g.'C' ∷ g.'M' ∷ g.'X' ∷ g.'Y' ∷ g.'N' ∷ g.'I' ∷ g.'B' ∷ []
+letters = ltr.'C' ∷ ltr.'M' ∷ ltr.'X' ∷ ltr.'Y' ∷ ltr.'N' ∷ ltr.'I' ∷ ltr.'B' ∷ []
 
 abbrev pub never : Part → List ℕ
-never path = g.'w' ∷ g.'L' ∷ g.'K' ∷ g.'E' ∷ []
-never bare = g.'w' ∷ g.'L' ∷ g.'K' ∷ g.'E' ∷ []
-never type = g.'L' ∷ g.'K' ∷ g.'E' ∷ []
-never arg = g.'E' ∷ []
-never const = g.'E' ∷ []
-never pattern = g.'E' ∷ []
-never trait = g.'E' ∷ []
-never trait-path = g.'E' ∷ []
+never path = ltr.'w' ∷ ltr.'L' ∷ ltr.'K' ∷ ltr.'E' ∷ []
+never bare = ltr.'w' ∷ ltr.'L' ∷ ltr.'K' ∷ ltr.'E' ∷ []
+never type = ltr.'L' ∷ ltr.'K' ∷ ltr.'E' ∷ []
+never arg = ltr.'E' ∷ []
+never const = ltr.'E' ∷ []
+never pattern = ltr.'E' ∷ []
+never trait = ltr.'E' ∷ []
+never trait-path = ltr.'E' ∷ []
 never bindings = []
-never field = g.'E' ∷ []
+never field = ltr.'E' ∷ []
 never (many x) = []
 
 module _ (s : List ℕ) where
-  pub path-first : {f : Follow} {n b i j : ℕ} → Reads s path f n b i j → T (g.anyOf (s ! i) letters)
-  unfolding g.anyOf
+  pub path-first : {f : Follow} {n b i j : ℕ} → Reads s path f n b i j → T (ltr.anyOf (s ! i) letters)
+  unfolding ltr.anyOf
   path-first (G.crate-root e q) = rw e tt
   path-first (G.inherent-impl e d r q) = rw e tt
   path-first (G.trait-impl e d r q t) = rw e tt
@@ -129,23 +129,23 @@ module _ (s : List ℕ) where
   path-first (G.followed u e q r) = rw e tt
 
   -- a byte that passes a test that these letters fail
-  of-test : (q : ℕ → Bool) (i : ℕ) → q g.'w' ≡ false → q g.'L' ≡ false → q g.'K' ≡ false → q g.'E' ≡ false → T (q (s ! i)) → s ! i ∉ never bare
+  of-test : (q : ℕ → Bool) (i : ℕ) → q ltr.'w' ≡ false → q ltr.'L' ≡ false → q ltr.'K' ≡ false → q ltr.'E' ≡ false → T (q (s ! i)) → s ! i ∉ never bare
   of-test q i w l k e t = none-of q (s ! i) (never bare) (w, (l, (k, (e, tt)))) t
 
   -- of the letters the last
-  pub type-last-of : (i : ℕ) → s ! i ∉ never type → s ! i ∉ g.'E' ∷ []
-  type-last-of i o = rest-of (s ! i) g.'K' (g.'E' ∷ []) (rest-of (s ! i) g.'L' (g.'K' ∷ g.'E' ∷ []) o)
+  pub type-last-of : (i : ℕ) → s ! i ∉ never type → s ! i ∉ ltr.'E' ∷ []
+  type-last-of i o = rest-of (s ! i) ltr.'K' (ltr.'E' ∷ []) (rest-of (s ! i) ltr.'L' (ltr.'K' ∷ ltr.'E' ∷ []) o)
 
-  last-of : (i : ℕ) → s ! i ∉ never bare → s ! i ∉ g.'E' ∷ []
-  last-of i o = type-last-of i (rest-of (s ! i) g.'w' (never type) o)
+  last-of : (i : ℕ) → s ! i ∉ never bare → s ! i ∉ ltr.'E' ∷ []
+  last-of i o = type-last-of i (rest-of (s ! i) ltr.'w' (never type) o)
 
-  named-first : (i : ℕ) {d x y z j : ℕ} → namedAt s i ≡ Called d x y z j → s ! i ∉ g.'E' ∷ []
-  unfolding namedAt optional62 identAt spanAt length10 decimal bytesAfter plain g.anyOf digitOf within
-  named-first i q = go (eqb (s ! i) g.'E') refl
+  named-first : (i : ℕ) {d x y z j : ℕ} → namedAt s i ≡ Called d x y z j → s ! i ∉ ltr.'E' ∷ []
+  unfolding namedAt optional62 identAt spanAt length10 decimal bytesAfter plain ltr.anyOf digitOf within
+  named-first i q = go (eqb (s ! i) ltr.'E') refl
     where
-      go : (t : Bool) → eqb (s ! i) g.'E' ≡ t → T (not (if-then t true false))
+      go : (t : Bool) → eqb (s ! i) ltr.'E' ≡ t → T (not (if-then t true false))
       go true e =
-          let e′ : s ! i ≡ g.'E' = eqb-true _ _ e in
+          let e′ : s ! i ≡ ltr.'E' = eqb-true _ _ e in
           let a : past 115 s i ≡ i = missing s 115 i (λ h. omega arith) in
           let b : past 117 s i ≡ i = missing s 117 i (λ h. omega arith) in
           let c : digits 10 (drop i s) ≡ [] = digits-none 10 s i (rw e′ (lit≤ tt)) in
@@ -153,7 +153,7 @@ module _ (s : List ℕ) where
       go false e = tt
 
   pub first : {p : Part} {f : Follow} {n b i j : ℕ} → Reads s p f n b i j → s ! i ∉ never p
-  unfolding g.anyOf g.isUnsigned g.isSigned isBasic basics.among basics.basic
+  unfolding ltr.anyOf ltr.isUnsigned ltr.isSigned isBasic basics.among basics.basic
   first (G.crate-root e q) = rw e tt
   first (G.inherent-impl e d r q) = rw e tt
   first (G.trait-impl e d r q t) = rw e tt
@@ -165,7 +165,7 @@ module _ (s : List ℕ) where
   first (G.lifetime-arg e q u) = rw e tt
   first (G.type-arg {i = i} r) = type-last-of i (first r)
   first (G.const-arg e r) = rw e tt
-  first (G.plain-type {i = i} r) = rest-of (s ! i) g.'w' (never type) (first r)
+  first (G.plain-type {i = i} r) = rest-of (s ! i) ltr.'w' (never type) (first r)
   first (G.basic-type {i = i} t) = of-test isBasic i refl refl refl refl t
   first (G.array-type e r q) = rw e tt
   first (G.slice-type e r) = rw e tt
@@ -182,8 +182,8 @@ module _ (s : List ℕ) where
   first (G.plain-trait {i = i} o o′ r) = last-of i (first r)
   first (G.no-binding o) = tt
   first (G.type-binding e q r t) = tt
-  first (G.unsigned-const {i = i} t q) = last-of i (of-test g.isUnsigned i refl refl refl refl t)
-  first (G.signed-const {i = i} t q) = last-of i (of-test g.isSigned i refl refl refl refl t)
+  first (G.unsigned-const {i = i} t q) = last-of i (of-test ltr.isUnsigned i refl refl refl refl t)
+  first (G.signed-const {i = i} t q) = last-of i (of-test ltr.isSigned i refl refl refl refl t)
   first (G.bool-const e q) = rw e tt
   first (G.char-const e q) = rw e tt
   first (G.placeholder e) = rw e tt

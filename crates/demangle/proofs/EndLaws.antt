@@ -8,7 +8,7 @@ use lib.ListN.{length}
 use Rattle.parser.specs.Bytes.{past}
 use Rattle.pieces.specs.Basic as basics
 use Rattle.pieces.specs.Basic.{isBasic}
-use Rattle.printer.specs.Model.{'n'}
+use Rattle.printer.specs.Letters.{'n'}
 use Rattle.printer.proofs.WithinLaws.{named-within}
 use Rattle.demangle.specs.Grammar as G
 use Rattle.demangle.specs.Grammar.{Part, path, type, bare, arg, const, pattern, trait, trait-path, bindings, field, many, Follow, Leads, Reads}

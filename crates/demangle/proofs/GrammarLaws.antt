@@ -9,6 +9,7 @@ use Rattle.parser.specs.Number.{backAt}
 use Rattle.parser.specs.declared.number.Back.the-variants.{Target}
 use Rattle.pieces.specs.Piece.{Piece}
 use Rattle.printer.specs.Says.{U, ok, Says}
+use Rattle.printer.specs.Letters as ltr
 use Rattle.printer.specs.Model as g
 use Rattle.demangle.specs.Grammar as G
 use Rattle.demangle.specs.Grammar.{_!_, Item, types, args, consts, patterns, traits, fields, Part, path, type, bare, arg, const, pattern, trait}
@@ -35,10 +36,10 @@ bound-gives less b v u = tt
 bound-gives (none {f}) b v u = zero-bound f b v u
 
 module _ (s : List ℕ) where
-  back-gives : {p q : Part} {h : Follow} {n m b i j v : ℕ} → Gives check h → Leads p q n m → s ! i ≡ g.'B' → backAt s (i + 1) ≡ Target v j → Reads s p h n b i j
+  back-gives : {p q : Part} {h : Follow} {n m b i j v : ℕ} → Gives check h → Leads p q n m → s ! i ≡ ltr.'B' → backAt s (i + 1) ≡ Target v j → Reads s p h n b i j
   back-gives same u e q = G.back u e q
 
-  followed-gives : {p q : Part} {h : Follow} {n m b i j k v : ℕ} → Gives sound h → Leads p q n m → s ! i ≡ g.'B' → backAt s (i + 1) ≡ Target v j
+  followed-gives : {p q : Part} {h : Follow} {n m b i j k v : ℕ} → Gives sound h → Leads p q n m → s ! i ≡ ltr.'B' → backAt s (i + 1) ≡ Target v j
       → Reads s q sound m b v k → Reads s p h n b i j
   followed-gives same u e q r = G.followed u e q r
   followed-gives less u e q r = G.back u e q

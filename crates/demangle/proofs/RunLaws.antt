@@ -16,7 +16,7 @@ use Rattle.parser.specs.Bytes.{past}
 use Rattle.parser.proofs.ByteLaws as bytes
 use Rattle.pieces.specs.Piece.{Piece}
 use Rattle.printer.specs.Says.{U, Res, ok, bad, Says, onto, next, choose, hush, caught, Got, got, taken, Tags, pick}
-use Rattle.printer.specs.Model as g
+use Rattle.printer.specs.Letters as ltr
 use Rattle.demangle.specs.Grammar.{_!_}
 
 infix 30 _∉_
@@ -102,7 +102,7 @@ tags (t ∷ ts) = t .0 ∷ tags ts
 
 -- a byte that is none of these
 abbrev pub _∉_ : ℕ → List ℕ → Type 0
-_∉_ c ks = T (not (g.anyOf c ks))
+_∉_ c ks = T (not (ltr.anyOf c ks))
 
 pub data Each {A : Type 0} (w : Bool) (P : A → ℕ → Type 0) (c j : ℕ) : Tags A → Type 0 where
   else : Each w P c j []
@@ -110,23 +110,23 @@ pub data Each {A : Type 0} (w : Bool) (P : A → ℕ → Type 0) (c j : ℕ) : T
 
 pub pick-sound : {A : Type 0} {P : A → ℕ → Type 0} {w : Bool} (c i j : ℕ) (ts : Tags A) (d : ℕ → Res A)
     → Each w P c j ts → (c ∉ tags ts → Sound w (d i) P) → Sound w (pick c ts d i j) P
-unfolding pick g.anyOf
+unfolding pick ltr.anyOf
 pick-sound c i j [] d else k = k tt
 pick-sound {A} {P} {w} c i j (t ∷ ts) d (h or hs) k = go (eqb c (t .0)) refl (λ o. pick-sound c i j ts d hs o)
   where
     go : (x : Bool) → eqb c (t .0) ≡ x → ((c ∉ tags ts → Sound w (d i) P) → Sound w (pick c ts d i j) P) → Sound w (pick c (t ∷ ts) d i j) P
     go true e r = rw (e, pick) (h (eqb-true c (t .0) e))
-    go false e r = rw (e, pick) (r (λ o. k (rw (e, g.anyOf) o)))
+    go false e r = rw (e, pick) (r (λ o. k (rw (e, ltr.anyOf) o)))
 
 -- where it is none of them
 pub pick-none : {A : Type 0} (c i j : ℕ) (ts : Tags A) (d : ℕ → Res A) → c ∉ tags ts → pick c ts d i j ≡ d i
-unfolding pick g.anyOf
+unfolding pick ltr.anyOf
 pick-none c i j [] d o = refl
 pick-none c i j (t ∷ ts) d o = go (eqb c (t .0)) refl (pick-none c i j ts d) o
   where
     go : (x : Bool) → eqb c (t .0) ≡ x → (c ∉ tags ts → pick c ts d i j ≡ d i) → c ∉ tags (t ∷ ts) → pick c (t ∷ ts) d i j ≡ d i
-    go true e r o = absurd (rw (e, g.anyOf) at o)
-    go false e r o = rw (e, pick) (r (rw (e, g.anyOf) at o))
+    go true e r o = absurd (rw (e, ltr.anyOf) at o)
+    go false e r o = rw (e, pick) (r (rw (e, ltr.anyOf) at o))
 
 -- ---- GOOD
 pub record Good {A : Type 0} (r : Res A) (a : A) (j : ℕ) : Type 0 where
@@ -175,36 +175,36 @@ abbrev Letters : (ℕ → Type 0) → List ℕ → Type 0
 Letters P [] = U
 Letters P (k ∷ ks) = P k × Letters P ks
 
-pub any-of : (P : ℕ → Type 0) (c : ℕ) (ks : List ℕ) → Letters P ks → T (g.anyOf c ks) → P c
-unfolding g.anyOf
+pub any-of : (P : ℕ → Type 0) (c : ℕ) (ks : List ℕ) → Letters P ks → T (ltr.anyOf c ks) → P c
+unfolding ltr.anyOf
 any-of P c [] h t = absurd t
 any-of P c (k ∷ ks) h t = go (eqb c k) refl (any-of P c ks (h .1)) t
   where
-    go : (x : Bool) → eqb c k ≡ x → (T (g.anyOf c ks) → P c) → T (g.anyOf c (k ∷ ks)) → P c
+    go : (x : Bool) → eqb c k ≡ x → (T (ltr.anyOf c ks) → P c) → T (ltr.anyOf c (k ∷ ks)) → P c
     go true e r u = rw (eqb-true c k e) (h .0)
-    go false e r u = r (rw (e, g.anyOf) at u)
+    go false e r u = r (rw (e, ltr.anyOf) at u)
 
 pub add-none : (c k : ℕ) (ks : List ℕ) → c ≢ k → c ∉ ks → c ∉ k ∷ ks
-unfolding g.anyOf
-add-none c k ks o h = rw (ne-eqb c k o, g.anyOf) h
+unfolding ltr.anyOf
+add-none c k ks o h = rw (ne-eqb c k o, ltr.anyOf) h
 
 pub rest-of : (c k : ℕ) (ks : List ℕ) → c ∉ k ∷ ks → c ∉ ks
-unfolding g.anyOf
+unfolding ltr.anyOf
 rest-of c k ks o = go (eqb c k) refl o
   where
     go : (x : Bool) → eqb c k ≡ x → c ∉ k ∷ ks → c ∉ ks
-    go true e o = absurd (rw (e, g.anyOf) at o)
-    go false e o = rw (e, g.anyOf) at o
+    go true e o = absurd (rw (e, ltr.anyOf) at o)
+    go false e o = rw (e, ltr.anyOf) at o
 
 -- a byte that passes a test is none of the letters that fail it
 pub none-of : (p : ℕ → Bool) (c : ℕ) (ks : List ℕ) → Letters (λ k. p k ≡ false) ks → T (p c) → c ∉ ks
-unfolding g.anyOf
+unfolding ltr.anyOf
 none-of p c [] h t = tt
 none-of p c (k ∷ ks) h t = go (eqb c k) refl (none-of p c ks (h .1) t)
   where
     go : (x : Bool) → eqb c k ≡ x → c ∉ ks → c ∉ k ∷ ks
     go true e o = absurd (rw (h .0) at (rw (eqb-true c k e) at t))
-    go false e o = rw (e, g.anyOf) o
+    go false e o = rw (e, ltr.anyOf) o
 
 module _ (s : List ℕ) where
   -- a byte that passes a test that 0 fails stands inside the symbol

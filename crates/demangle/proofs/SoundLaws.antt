@@ -26,6 +26,7 @@ use Rattle.printer.specs.declared.kinds.Kind.{Kind}
 use Rattle.printer.specs.declared.kinds.Kind.the-variants.{Path, Value as InValue, Ty, Const, Expr}
 use Rattle.printer.specs.declared.kinds.Item.{Item}
 use Rattle.printer.specs.declared.kinds.Item.the-variants.{Ty as AType, Arg, Expr as AValue, Field, Trait}
+use Rattle.printer.specs.Letters as ltr
 use Rattle.printer.specs.Model as g
 use Rattle.demangle.specs.Grammar as G
 use Rattle.demangle.specs.Grammar.{_!_, Part, path, type, bare, arg, const, pattern, trait, trait-path, bindings, field, many, types, args, consts}
@@ -81,7 +82,7 @@ module _ (s : List ℕ) where
     bound-life-sound = num-sound i tt (integer62 s i) (g.endLife f (g.held b)) (λ v j e. map (end-life-sound f b v j) (λ _ k q. (v, rw (q .0) e, q .1)))
 
   bound-sound : {w : Bool} (f : Bool) (b i : ℕ)
-      → Sound w (g.bound s f (g.held b) .run i) (λ _ j. (v : ℕ) × (s ! i ≡ g.'L') × (integer62 s (i + 1) ≡ Value v j) × Bound (asks f) b v)
+      → Sound w (g.bound s f (g.held b) .run i) (λ _ j. (v : ℕ) × (s ! i ≡ ltr.'L') × (integer62 s (i + 1) ≡ Value v j) × Bound (asks f) b v)
   unfolding g.bound broken breaks
   bound-sound f b i = eat-sound s i _ _ (λ e. map (bound-life-sound f b (i + 1)) (λ _ j q. (q .0, e, q .1, q .2))) (λ _. sure tt)
 
@@ -107,7 +108,7 @@ module _ (s : List ℕ) where
 
   -- ---- a back reference by its target
   target-sound : {A : Type 0} {q r : Part} {n m : ℕ} (z : A) (a : g.Deep A) → Leads q r n m
-      → ((b i : ℕ) → Derives s r true m b i (a true (g.held b) .run i)) → (f : Bool) (b i v j : ℕ) → s ! i ≡ g.'B' → backAt s (i + 1) ≡ Target v j
+      → ((b i : ℕ) → Derives s r true m b i (a true (g.held b) .run i)) → (f : Bool) (b i v j : ℕ) → s ! i ≡ ltr.'B' → backAt s (i + 1) ≡ Target v j
       → Derives s q f n b i (g.target s z a f (g.held b) v .run j)
   unfolding g.target reader
   target-sound z a u h true b i v j e e′ = caught-sound (a true (g.held b) .run v) j (h b v) (λ _ k r. G.followed u e e′ r)
@@ -120,7 +121,7 @@ module _ (s : List ℕ) where
     uint-sound = hex-sound i tt s _ (λ x e j q. sure (e, q))
 
   module _ {w : Bool} (tag i : ℕ) where
-    int-sound : Sound w (g.int s tag .run i) (λ _ j. (e : ℕ) × (hexAt s (past g.'n' s i) ≡ To e j))
+    int-sound : Sound w (g.int s tag .run i) (λ _ j. (e : ℕ) × (hexAt s (past ltr.'n' s i) ≡ To e j))
     unfolding g.int emit _then_ _>>=_ next
     int-sound = eat-sound s i _ _ (λ e. rw (found s _ i e) (said _ (uint-sound tag (i + 1)))) (λ o. rw (missing s _ i o) (uint-sound tag i))
 
@@ -167,10 +168,10 @@ pub record Right (s : List ℕ) (n : ℕ) (p : g.Level) : Type 0 where
   pub paths : (value f : Bool) (b i : ℕ) → Derives s path f n b i (p .path value f (g.held b) .run i)
   consts : (value f : Bool) (b i : ℕ) → Derives s const f n b i (p .con value f (g.held b) .run i)
   bares : (f : Bool) (b i : ℕ) → Derives s bare f n b i (p .bare f (g.held b) .run i)
-  ors : (f : Bool) (b i : ℕ) → s ! i ≡ g.'O' → Derives s pattern f n b i (p .ors f (g.held b) .run (i + 1))
-  aims : (k : Kind) (f : Bool) (b i v j : ℕ) → s ! i ≡ g.'B' → backAt s (i + 1) ≡ Target v j
+  ors : (f : Bool) (b i : ℕ) → s ! i ≡ ltr.'O' → Derives s pattern f n b i (p .ors f (g.held b) .run (i + 1))
+  aims : (k : Kind) (f : Bool) (b i v j : ℕ) → s ! i ≡ ltr.'B' → backAt s (i + 1) ≡ Target v j
       → Derives s (back-part k) f (suc n) b i (p .aim k f (g.held b) v .run j)
-  opens : (f : Bool) (b i v j : ℕ) → s ! i ≡ g.'B' → backAt s (i + 1) ≡ Target v j → Derives s trait-path f n b i (p .openAt f (g.held b) v .run j)
+  opens : (f : Bool) (b i v j : ℕ) → s ! i ≡ ltr.'B' → backAt s (i + 1) ≡ Target v j → Derives s trait-path f n b i (p .openAt f (g.held b) v .run j)
 
 module _ (s : List ℕ) (n : ℕ) (p : g.Level) (h : Right s n p) where
   -- types and arguments
@@ -179,7 +180,7 @@ module _ (s : List ℕ) (n : ℕ) (p : g.Level) (h : Right s n p) where
   type-sound f b i = eat-sound s i _ _ (λ e. said _ (map (h .bares f b (i + 1)) (λ _ j r. G.splat e r))) (λ o. map (h .bares f b i) (λ _ j r. G.plain-type r))
 
   arg-sound : (f : Bool) (b i : ℕ) → Derives s arg f n b i (g.arg s p f (g.held b) .run i)
-  unfolding g.arg g.anyOf
+  unfolding g.arg ltr.anyOf
   arg-sound f b i = rw (or-tag s tt _ i (g.type s p f (g.held b) .run) tt) (pick-sound _ i _ _ _
       ((λ e. map (lifetime-sound s f b (i + 1)) (λ _ j q. G.lifetime-arg e (q .1) (q .2)))
       or (λ e. map (h .consts false f b (i + 1)) (λ _ j r. G.const-arg e r))
@@ -203,13 +204,13 @@ module _ (s : List ℕ) (n : ℕ) (p : g.Level) (h : Right s n p) where
       (λ o. said _ (after _ (pat-sound f b i) (λ _ j r. map (alternatives-sound f b k j) (λ _ l w. G.list-more r w))))
 
   -- dyn traits
-  bound-to-sound : (f : Bool) (b i j : ℕ) {x y z : ℕ} → s ! i ≡ g.'p' → identAt s (i + 1) ≡ Parts x y z j
+  bound-to-sound : (f : Bool) (b i j : ℕ) {x y z : ℕ} → s ! i ≡ ltr.'p' → identAt s (i + 1) ≡ Parts x y z j
       → Sound f (g.boundTo s p f (g.held b) .run j) (λ _ k. (l : ℕ) → Reads s bindings (asks f) n b k l → Reads s bindings (asks f) n b i l)
   unfolding g.boundTo
   bound-to-sound f b i j e e′ = eat-sound s j _ _ (λ c. map (h .consts false f b (j + 1)) (λ _ k r l q. G.const-binding e e′ c r q))
       (λ o. map (type-sound f b j) (λ _ k r l q. G.type-binding e e′ r q))
 
-  binding-sound : (opened f : Bool) (b i : ℕ) → s ! i ≡ g.'p'
+  binding-sound : (opened f : Bool) (b i : ℕ) → s ! i ≡ ltr.'p'
       → Sound f (g.binding s p opened f (g.held b) .run (i + 1))
       (λ y k. (y ≡ true) × ((l : ℕ) → Reads s bindings (asks f) n b k l → Reads s bindings (asks f) n b i l))
   unfolding g.binding g.boundName need reader emit give _then_ _>>=_ next onto
@@ -230,7 +231,7 @@ module _ (s : List ℕ) (n : ℕ) (p : g.Level) (h : Right s n p) where
   list-of-sound q t m k i = list-sound s q t m k (length s) 0 i
 
   open-path-sound : (f : Bool) (b i : ℕ) → Derives s trait-path f n b i (g.openPath s p f (g.held b) .run i)
-  unfolding g.openPath g.openBack g.openGeneric g.shutPath need reader emit give _then_ _>>=_ next onto g.anyOf
+  unfolding g.openPath g.openBack g.openGeneric g.shutPath need reader emit give _then_ _>>=_ next onto ltr.anyOf
   open-path-sound f b i = rw (or-tag s false _ i (g.shutPath s p f (g.held b) .run) tt) (pick-sound _ i _ _ _
       ((λ e. back-sound (i + 1) false (backAt s (i + 1)) _ (λ v j e′. h .opens f b i v j e e′))
       or (λ e. after _ (h .paths false f b (i + 1)) (λ _ j r.
@@ -273,11 +274,11 @@ module _ (s : List ℕ) (n : ℕ) (p : g.Level) (h : Right s n p) where
   unfolding g.refer choose _>>=_ next
   refer-sound m f b i = after _ (reference-sound s m f b i) (λ y j q. rw (q .1) (map (type-sound f b j) (λ _ k r. (q .0, j, q .2, q .3, r))))
 
-  array-sound : (f : Bool) (b i : ℕ) → s ! i ≡ g.'A' → Derives s bare f (suc n) b i (g.array s p true f (g.held b) .run (i + 1))
+  array-sound : (f : Bool) (b i : ℕ) → s ! i ≡ ltr.'A' → Derives s bare f (suc n) b i (g.array s p true f (g.held b) .run (i + 1))
   unfolding g.array g.size emit choose _then_ _>>=_ next
   array-sound f b i e = said _ (after _ (type-sound f b (i + 1)) (λ _ j r. after _ (said _ (h .consts true f b j)) (λ _ k q. sure (G.array-type e r q))))
 
-  slice-sound : (f : Bool) (b i : ℕ) → s ! i ≡ g.'S' → Derives s bare f (suc n) b i (g.array s p false f (g.held b) .run (i + 1))
+  slice-sound : (f : Bool) (b i : ℕ) → s ! i ≡ ltr.'S' → Derives s bare f (suc n) b i (g.array s p false f (g.held b) .run (i + 1))
   unfolding g.array g.size emit choose _then_ _>>=_ next
   slice-sound f b i e = said _ (after _ (type-sound f b (i + 1)) (λ _ j r. sure (G.slice-type e r)))
 
@@ -292,28 +293,28 @@ module _ (s : List ℕ) (n : ℕ) (p : g.Level) (h : Right s n p) where
   signature-sound f b i = after _ (head-sounds s i) (λ y j q. rw (q .1) (after _ (items-sound AType f b j) (λ _ k r.
       said _ (map (result-sound f b k) (λ _ l w. (q .0, j, k, q .2, r, w))))))
 
-  function-sound : (f : Bool) (b i : ℕ) → s ! i ≡ g.'F' → Derives s bare f (suc n) b i (g.function s p f (g.held b) .run (i + 1))
+  function-sound : (f : Bool) (b i : ℕ) → s ! i ≡ ltr.'F' → Derives s bare f (suc n) b i (g.function s p f (g.held b) .run (i + 1))
   unfolding g.function need reader emit _then_ _>>=_ next
-  function-sound f b i e = num-sound (i + 1) tt (optional62 g.'G' s (i + 1)) _ (λ m j e′.
+  function-sound f b i e = num-sound (i + 1) tt (optional62 ltr.'G' s (i + 1)) _ (λ m j e′.
       rw (held-sum b m) (said _ (map (signature-sound f (b + m) j) (λ _ l q. G.fn-type e e′ (q .3) (q .4) (q .5)))))
 
   traits-sound : (f : Bool) (b i : ℕ) → Sound f (g.traits s p f (g.held b) .run i)
-      (λ _ k. (m j : ℕ) × (optional62 g.'G' s i ≡ Value m j) × Reads s (many traits) (asks f) n (b + m) j k)
+      (λ _ k. (m j : ℕ) × (optional62 ltr.'G' s i ≡ Value m j) × Reads s (many traits) (asks f) n (b + m) j k)
   unfolding g.traits need reader emit _then_ _>>=_ next
-  traits-sound f b i = num-sound i tt (optional62 g.'G' s i) _ (λ m j e.
+  traits-sound f b i = num-sound i tt (optional62 ltr.'G' s i) _ (λ m j e.
       rw (held-sum b m) (said _ (after _ (items-sound Trait f (b + m) j) (λ _ k r. sure (m, j, e, r)))))
 
-  object-sound : (f : Bool) (b i : ℕ) → s ! i ≡ g.'D' → Derives s bare f (suc n) b i (g.object s p f (g.held b) .run (i + 1))
+  object-sound : (f : Bool) (b i : ℕ) → s ! i ≡ ltr.'D' → Derives s bare f (suc n) b i (g.object s p f (g.held b) .run (i + 1))
   unfolding g.object emit _then_ _>>=_ next
   object-sound f b i e = said _ (after _ (traits-sound f b (i + 1)) (λ _ k r.
       map (bound-sound s f b k) (λ _ l q. G.dyn-trait-type e (r .2) (r .3) (q .1) (q .2) (q .3))))
 
-  back-sounds : (k : Kind) (f : Bool) (b i : ℕ) → s ! i ≡ g.'B' → Derives s (back-part k) f (suc n) b i (g.back s p k f (g.held b) .run (i + 1))
+  back-sounds : (k : Kind) (f : Bool) (b i : ℕ) → s ! i ≡ ltr.'B' → Derives s (back-part k) f (suc n) b i (g.back s p k f (g.held b) .run (i + 1))
   unfolding g.back need reader
   back-sounds k f b i e = back-sound (i + 1) tt (backAt s (i + 1)) _ (λ v j e′. h .aims k f b i v j e e′)
 
   typed-sound : (f : Bool) (b i : ℕ) → Derives s bare f (suc n) b i (pick (s ! i) (g.typeTags s p f (g.held b)) (p .path false f (g.held b) .run) i (i + 1))
-  unfolding g.typeTags g.pointer g.patterned g.anyOf emit _then_ _>>=_ next
+  unfolding g.typeTags g.pointer g.patterned ltr.anyOf emit _then_ _>>=_ next
   typed-sound f b i = pick-sound _ i _ _ _
       ((λ e. map (refer-sound false f b (i + 1)) (λ _ k q. G.ref-type e (q .2) (q .3) (q .4)))
       or (λ e. map (refer-sound true f b (i + 1)) (λ _ k q. G.mut-ref-type e (q .2) (q .3) (q .4)))
@@ -335,15 +336,15 @@ module _ (s : List ℕ) (n : ℕ) (p : g.Level) (h : Right s n p) where
   unfolding g.bracedBy emit _then_ _>>=_ next
   braced-sound tag value f b i k = said _ (after _ k (λ _ j q. sure q))
 
-  string-sound : (f : Bool) (b i : ℕ) → Sound f (g.bodyBy s p g.'e' f (g.held b) .run i) (λ _ j. (e : ℕ) × (literalAt s i ≡ Spelt e j))
+  string-sound : (f : Bool) (b i : ℕ) → Sound f (g.bodyBy s p ltr.'e' f (g.held b) .run i) (λ _ j. (e : ℕ) × (literalAt s i ≡ Spelt e j))
   unfolding g.bodyBy g.unsizedLiteral choose emit _then_ _>>=_ next
   string-sound f b i = said _ (literal-sounds s i)
 
-  values-sound : (f : Bool) (b i : ℕ) → Derives s (many consts) f n b i (g.bodyBy s p g.'A' f (g.held b) .run i)
+  values-sound : (f : Bool) (b i : ℕ) → Derives s (many consts) f n b i (g.bodyBy s p ltr.'A' f (g.held b) .run i)
   unfolding g.bodyBy choose
   values-sound f b i = between-sound _ AValue _ f b i
 
-  tuple-value-sound : (f : Bool) (b i : ℕ) → Derives s (many consts) f n b i (g.bodyBy s p g.'T' f (g.held b) .run i)
+  tuple-value-sound : (f : Bool) (b i : ℕ) → Derives s (many consts) f n b i (g.bodyBy s p ltr.'T' f (g.held b) .run i)
   unfolding g.bodyBy choose
   tuple-value-sound f b i = tuple-sound AValue f b i
 
@@ -351,17 +352,17 @@ module _ (s : List ℕ) (n : ℕ) (p : g.Level) (h : Right s n p) where
   unfolding g.referTo emit _then_ _>>=_ next
   refer-to-sound m f b i = said _ (said _ (h .consts true f b i))
 
-  ref-const-sound : (value f : Bool) (b i : ℕ) → s ! i ≡ g.'R' → Derives s const f (suc n) b i (g.refConst s p value f (g.held b) .run (i + 1))
+  ref-const-sound : (value f : Bool) (b i : ℕ) → s ! i ≡ ltr.'R' → Derives s const f (suc n) b i (g.refConst s p value f (g.held b) .run (i + 1))
   unfolding g.refConst g.bodyBy choose
   ref-const-sound value f b i e = eat-sound s (i + 1) _ _ (λ e′. map (literal-sounds s (i + 1 + 1)) (λ _ j q. G.string-ref-const e e′ (q .1)))
-      (λ o. map (braced-sound g.'R' value f b (i + 1) (refer-to-sound false f b (i + 1))) (λ _ j r. G.ref-const e o r))
+      (λ o. map (braced-sound ltr.'R' value f b (i + 1) (refer-to-sound false f b (i + 1))) (λ _ j r. G.ref-const e o r))
 
   fields-sound : (from : ℕ) (k : Item) (to : ℕ) (value f : Bool) (b i : ℕ)
       → Derives s (many (item k)) f n b i (g.fields s p from k to value f (g.held b) .run i)
   unfolding g.fields emit _then_ _>>=_ next
   fields-sound from k to value f b i = after _ (between-sound from k to f b i) (λ _ j r. sure r)
 
-  adt-sound : (value f : Bool) (b i : ℕ) → s ! i ≡ g.'V' → Derives s const f (suc n) b i (g.adt s p value f (g.held b) .run (i + 1))
+  adt-sound : (value f : Bool) (b i : ℕ) → s ! i ≡ ltr.'V' → Derives s const f (suc n) b i (g.adt s p value f (g.held b) .run (i + 1))
   unfolding g.adt g.variant emit _then_ _>>=_ next
   adt-sound value f b i e = said _ (after _ (h .paths true f b (i + 1)) (λ _ j r. by-tag-sound s tt _ j g.unknown (pick-sound _ j _ _ _
       ((λ e′. sure (G.unit-const e r e′))
@@ -372,10 +373,10 @@ module _ (s : List ℕ) (n : ℕ) (p : g.Level) (h : Right s n p) where
 
   integer-sound : (f : Bool) (b i : ℕ) → Derives s const f (suc n) b i (g.integer s (s ! i) i (i + 1))
   unfolding g.integer
-  integer-sound f b i = if-sound (g.isUnsigned (s ! i)) _ _ (λ t. map (uint-sound s (s ! i) (i + 1)) (λ _ j q. G.unsigned-const t (q .1)))
-      (if-sound (g.isSigned (s ! i)) _ _ (λ t. map (int-sound s (s ! i) (i + 1)) (λ _ j q. G.signed-const t (q .1))) (sure tt))
+  integer-sound f b i = if-sound (ltr.isUnsigned (s ! i)) _ _ (λ t. map (uint-sound s (s ! i) (i + 1)) (λ _ j q. G.unsigned-const t (q .1)))
+      (if-sound (ltr.isSigned (s ! i)) _ _ (λ t. map (int-sound s (s ! i) (i + 1)) (λ _ j q. G.signed-const t (q .1))) (sure tt))
 
-  const-back-sound : (value f : Bool) (b i : ℕ) → s ! i ≡ g.'B'
+  const-back-sound : (value f : Bool) (b i : ℕ) → s ! i ≡ ltr.'B'
       → Derives s const f (suc n) b i (g.back s p (if-then value Expr Const) f (g.held b) .run (i + 1))
   const-back-sound true f b i e = back-sounds Expr f b i e
   const-back-sound false f b i e = back-sounds Const f b i e
@@ -386,18 +387,18 @@ module _ (s : List ℕ) (n : ℕ) (p : g.Level) (h : Right s n p) where
       ((λ e. sure (G.placeholder e))
       or (λ e. flag-sound (i + 1) tt (flagAt s (i + 1)) _ (λ u j q. sure (G.bool-const e q)))
       or (λ e. num-sound (i + 1) tt (scalarAt s (i + 1)) _ (λ v j q. sure (G.char-const e q)))
-      or (λ e. map (braced-sound g.'e' value f b (i + 1) (string-sound f b (i + 1))) (λ _ j q. G.string-const e (q .1)))
+      or (λ e. map (braced-sound ltr.'e' value f b (i + 1) (string-sound f b (i + 1))) (λ _ j q. G.string-const e (q .1)))
       or (λ e. ref-const-sound value f b i e)
-      or (λ e. map (braced-sound g.'Q' value f b (i + 1) (refer-to-sound true f b (i + 1))) (λ _ j r. G.mut-ref-const e r))
-      or (λ e. map (braced-sound g.'A' value f b (i + 1) (values-sound f b (i + 1))) (λ _ j r. G.array-const e r))
-      or (λ e. map (braced-sound g.'T' value f b (i + 1) (tuple-value-sound f b (i + 1))) (λ _ j r. G.tuple-const e r))
+      or (λ e. map (braced-sound ltr.'Q' value f b (i + 1) (refer-to-sound true f b (i + 1))) (λ _ j r. G.mut-ref-const e r))
+      or (λ e. map (braced-sound ltr.'A' value f b (i + 1) (values-sound f b (i + 1))) (λ _ j r. G.array-const e r))
+      or (λ e. map (braced-sound ltr.'T' value f b (i + 1) (tuple-value-sound f b (i + 1))) (λ _ j r. G.tuple-const e r))
       or (λ e. adt-sound value f b i e)
       or (λ e. const-back-sound value f b i e)
       or else)
       (λ o. integer-sound f b i))
 
   -- the paths by their tags
-  path-back-sound : (value f : Bool) (b i : ℕ) → s ! i ≡ g.'B'
+  path-back-sound : (value f : Bool) (b i : ℕ) → s ! i ≡ ltr.'B'
       → Derives s path f (suc n) b i (g.back s p (if-then value InValue Path) f (g.held b) .run (i + 1))
   path-back-sound true f b i e = back-sounds InValue f b i e
   path-back-sound false f b i e = back-sounds Path f b i e
@@ -417,9 +418,9 @@ module _ (s : List ℕ) (n : ℕ) (p : g.Level) (h : Right s n p) where
       ((λ e. named-sound (i + 1) tt (namedAt s (i + 1)) _ (λ r j q. sure (G.crate-root e q)))
       or (λ e. letter-sound (i + 1) tt (letterAt s (i + 1)) _ (λ c j e′. after _ (h .paths value f b j) (λ _ k r.
       said _ (named-sound k tt (namedAt s k) _ (λ x l q. sure (G.nested-path e e′ r q))))))
-      or (λ e. num-sound (i + 1) tt (optional62 g.'s' s (i + 1)) _ (λ d j e′. after _ (hush-sound (h .paths false false b j)) (λ _ k r.
+      or (λ e. num-sound (i + 1) tt (optional62 ltr.'s' s (i + 1)) _ (λ d j e′. after _ (hush-sound (h .paths false false b j)) (λ _ k r.
       map (self-sound f b k) (λ _ l q. G.inherent-impl e e′ r q))))
-      or (λ e. num-sound (i + 1) tt (optional62 g.'s' s (i + 1)) _ (λ d j e′. after _ (hush-sound (h .paths false false b j)) (λ _ k r.
+      or (λ e. num-sound (i + 1) tt (optional62 ltr.'s' s (i + 1)) _ (λ d j e′. after _ (hush-sound (h .paths false false b j)) (λ _ k r.
       map (as-sound f b k) (λ _ l q. G.trait-impl e e′ r (q .1) (q .2)))))
       or (λ e. map (as-sound f b (i + 1)) (λ _ k q. G.trait-definition e (q .1) (q .2)))
       or (λ e. after _ (h .paths value f b (i + 1)) (λ _ j r. said _ (after _ (items-sound Arg f b j) (λ _ k q. sure (G.generic-args e r q)))))
@@ -436,7 +437,7 @@ module _ (s : List ℕ) (n : ℕ) (p : g.Level) (h : Right s n p) where
   says-sound Const f b i = h .consts false f b i
   says-sound Expr f b i = h .consts true f b i
 
-  ors-sound : (f : Bool) (b i : ℕ) → s ! i ≡ g.'O' → Derives s pattern f (suc n) b i (g.above s p .ors f (g.held b) .run (i + 1))
+  ors-sound : (f : Bool) (b i : ℕ) → s ! i ≡ ltr.'O' → Derives s pattern f (suc n) b i (g.above s p .ors f (g.held b) .run (i + 1))
   unfolding _then_ _>>=_ next
   ors-sound f b i e = after _ (pat-sound f b (i + 1)) (λ _ j r. map (alternatives-sound f b (length s) j) (λ _ k q. G.or-pattern e r q))
 

@@ -25,8 +25,8 @@ use Rattle.printer.specs.declared.read.Named.the-variants.{Of as Called}
 use Rattle.printer.specs.declared.read.Head.the-variants.{Of as Before}
 use Rattle.printer.specs.declared.read.Flag.the-variants.{Of as Is}
 use Rattle.printer.specs.declared.read.Literal.the-variants.{Of as Spelt}
-use Rattle.printer.specs.Model.{'A', 'B', 'C', 'D', 'E', 'F', 'G', 'I', 'K', 'L', 'M', 'N', 'O', 'P', 'Q', 'R', 'S', 'T', 'U', 'V', 'W', 'X', 'Y'}
-use Rattle.printer.specs.Model.{'b', 'c', 'e', 'n', 'p', 's', 'w', isUnsigned, isSigned}
+use Rattle.printer.specs.Letters.{'A', 'B', 'C', 'D', 'E', 'F', 'G', 'I', 'K', 'L', 'M', 'N', 'O', 'P', 'Q', 'R', 'S', 'T', 'U', 'V', 'W', 'X', 'Y'}
+use Rattle.printer.specs.Letters.{'b', 'c', 'e', 'n', 'p', 's', 'w', isUnsigned, isSigned}
 
 infixl 90 _!_
 -- the byte at a place; 0, which is no byte of the grammar, past the end

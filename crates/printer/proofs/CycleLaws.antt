@@ -36,7 +36,9 @@ use Rattle.printer.specs.declared.read.Named.{Named}
 use Rattle.printer.specs.declared.read.Named.the-variants.{Of as Called, Invalid as NoNamed}
 use Rattle.printer.specs.Lay.{World, world, Out, out, lays, lay, movedTo, backTo, failedAt, follows}
 use Rattle.printer.specs.Model as g
-use Rattle.printer.specs.Model.{sayIf, 'B', 'I', 'K', 'L', 'R', 'O', 'N'}
+use Rattle.printer.specs.Parts as part
+use Rattle.printer.specs.Model.{sayIf}
+use Rattle.printer.specs.Letters.{'B', 'I', 'K', 'L', 'R', 'O', 'N'}
 use Rattle.printer.proofs.LayLaws.{lay-nil, lay-caught, lays-caught, lays-same, lays-moved, lays-still, lays-failed, backed, doing-run}
 use Rattle.printer.proofs.NeedLaws.{num-next, num-fails, letter-next, letter-fails, back-next, back-fails, named-next, named-fails}
 use Rattle.printer.proofs.StateLaws.{Halted}
@@ -192,8 +194,8 @@ module _ (m : ℕ) (s : List ℕ) (n : ℕ) (value f : Bool) (b : ℕ) (o : List
   pub path-next : (n ≡ 0 → ⊥) → w ≡ lay m (g.byTag s tt (g.pathTags s (g.level s (n - 1)) value f b) g.unknown) (world o st) → w ≡ lay m (g.level s n .path value f b) (world o st)
   path-next some p = p ∙ ap (λ (l : g.Level). lay m (l .path value f b) (world o st)) (sym (level-is s n some))
 
-  pub con-deep : n ≡ 0 → w ≡ lay m (g.noLevel s) (world o st) → w ≡ lay m (g.level s n .con value f b) (world o st)
-  unfolding g.level g.noLevel
+  pub con-deep : n ≡ 0 → w ≡ lay m (part.noLevel s) (world o st) → w ≡ lay m (g.level s n .con value f b) (world o st)
+  unfolding g.level part.noLevel
   con-deep z p = rw z p
 
   pub con-next : (n ≡ 0 → ⊥) → w ≡ lay m (g.byTag s tt (g.constTags s (g.level s (n - 1)) value f b) (g.integer s)) (world o st) → w ≡ lay m (g.level s n .con value f b) (world o st)
@@ -213,8 +215,8 @@ pub ruleset con-laws = (con-stop, con-deep, con-next)
 
 pub ruleset ors-laws = (ors-deep, ors-next)
 
-bare-as : (s : List ℕ) (i : ℕ) (x : Tag) → x ≡ tagAt s i → (p : g.Level) (f : Bool) (b : ℕ) → isBasic (x .byte) ≡ false → g.typed s p f b .run i ≡ g.above s p .bare f b .run i
-unfolding g.typed
+bare-as : (s : List ℕ) (i : ℕ) (x : Tag) → x ≡ tagAt s i → (p : g.Level) (f : Bool) (b : ℕ) → isBasic (x .byte) ≡ false → part.typed s p f b .run i ≡ g.above s p .bare f b .run i
+unfolding part.typed
 bare-as s i x answered p f b h = bare-run s i x answered (g.typeTags s p f b) (p .path false f b .run) h
 
 -- a type: x is what `look` answered, y what `is_basic` answered
@@ -232,13 +234,13 @@ module _ (m : ℕ) (s : List ℕ) (n : ℕ) (f : Bool) (b : ℕ) (o : List ℕ) 
   pub bare-basic : (mv : State) → y ≡ true → st .full ≡ false → mv ≡ movedTo (x .behind) st → w ≡ lay m (emit (basic (x .byte) ∷ [])) (world o mv) → w ≡ lay m (g.level s n .bare f b) (world o st)
   bare-basic mv h u l p = basic-at mv n h u l p
 
-  pub bare-deep : y ≡ false → n ≡ 0 → w ≡ lay m (g.noLevel s) (world o st) → w ≡ lay m (g.level s n .bare f b) (world o st)
-  unfolding g.level g.noLevel
+  pub bare-deep : y ≡ false → n ≡ 0 → w ≡ lay m (part.noLevel s) (world o st) → w ≡ lay m (g.level s n .bare f b) (world o st)
+  unfolding g.level part.noLevel
   bare-deep h z p = rw z (tag-same m s o st w x answered none (g.basicOr s (λ c i j. refused tt tooDeep i)) (λ c i j. refused tt tooDeep i) (λ j. unfold g.basicOr in (rw (sym judged ∙ h))) p)
 
-  pub bare-next : y ≡ false → (n ≡ 0 → ⊥) → w ≡ lay m (g.typed s (g.level s (n - 1)) f b) (world o st) → w ≡ lay m (g.level s n .bare f b) (world o st)
+  pub bare-next : y ≡ false → (n ≡ 0 → ⊥) → w ≡ lay m (part.typed s (g.level s (n - 1)) f b) (world o st) → w ≡ lay m (g.level s n .bare f b) (world o st)
   bare-next h some p =
-      arm-run m (g.above s (g.level s (n - 1)) .bare f b) (g.typed s (g.level s (n - 1)) f b) o st w none p
+      arm-run m (g.above s (g.level s (n - 1)) .bare f b) (part.typed s (g.level s (n - 1)) f b) o st w none p
       (bare-as s (st .place) x answered (g.level s (n - 1)) f b (sym judged ∙ h))
       ∙ ap (λ (l : g.Level). lay m (l .bare f b) (world o st)) (sym (level-is s n some))
 
@@ -279,62 +281,62 @@ module _ (m : ℕ) (s : List ℕ) (p : g.Level) (value : Bool) (f : Bool) (b : �
   path-other n67 n78 nn n89 n73 n66 q = tag-unknown m s o st w x answered none (g.pathTags s p value f b) (λ j. rw (ne-eqb (x .byte) 67 n67, ne-eqb (x .byte) 78 n78, ne-eqb (x .byte) 77 (λ e. nn (inl e)), ne-eqb (x .byte) 88 (λ e. nn (inr e)), ne-eqb (x .byte) 89 n89, ne-eqb (x .byte) 73 n73, ne-eqb (x .byte) 66 n66, pick)) q
 
 module _ (m : ℕ) (s : List ℕ) (p : g.Level) (f : Bool) (b : ℕ) (o : List ℕ) (st : State) (w : World) (x : Tag) (answered : x ≡ tagAt s (st .place)) (none : st .error ≡ 0) where
-  pub type-ref : (mv : State) → x .byte ≡ 82 → st .full ≡ false → mv ≡ movedTo (x .behind) st → w ≡ lay m (g.refer s p false f b) (world o mv) → w ≡ lay m (g.typed s p f b) (world o st)
-  unfolding g.typed g.typeTags pick
+  pub type-ref : (mv : State) → x .byte ≡ 82 → st .full ≡ false → mv ≡ movedTo (x .behind) st → w ≡ lay m (g.refer s p false f b) (world o mv) → w ≡ lay m (part.typed s p f b) (world o st)
+  unfolding part.typed g.typeTags pick
   type-ref mv h u l q = tag-next m s o st w x answered none _ _ (g.refer s p false f b) mv 82 h refl u l q refl
 
-  pub type-mut : (mv : State) → x .byte ≡ 81 → st .full ≡ false → mv ≡ movedTo (x .behind) st → w ≡ lay m (g.refer s p true f b) (world o mv) → w ≡ lay m (g.typed s p f b) (world o st)
-  unfolding g.typed g.typeTags pick
+  pub type-mut : (mv : State) → x .byte ≡ 81 → st .full ≡ false → mv ≡ movedTo (x .behind) st → w ≡ lay m (g.refer s p true f b) (world o mv) → w ≡ lay m (part.typed s p f b) (world o st)
+  unfolding part.typed g.typeTags pick
   type-mut mv h u l q = tag-next m s o st w x answered none _ _ (g.refer s p true f b) mv 81 h refl u l q refl
 
-  pub type-const-ptr : (mv : State) → x .byte ≡ 80 → st .full ≡ false → mv ≡ movedTo (x .behind) st → w ≡ lay m (g.pointer s p W.ptr-const f b) (world o mv) → w ≡ lay m (g.typed s p f b) (world o st)
-  unfolding g.typed g.typeTags pick
+  pub type-const-ptr : (mv : State) → x .byte ≡ 80 → st .full ≡ false → mv ≡ movedTo (x .behind) st → w ≡ lay m (g.pointer s p W.ptr-const f b) (world o mv) → w ≡ lay m (part.typed s p f b) (world o st)
+  unfolding part.typed g.typeTags pick
   type-const-ptr mv h u l q = tag-next m s o st w x answered none _ _ (g.pointer s p W.ptr-const f b) mv 80 h refl u l q refl
 
-  pub type-mut-ptr : (mv : State) → x .byte ≡ 79 → st .full ≡ false → mv ≡ movedTo (x .behind) st → w ≡ lay m (g.pointer s p W.ptr-mut f b) (world o mv) → w ≡ lay m (g.typed s p f b) (world o st)
-  unfolding g.typed g.typeTags pick
+  pub type-mut-ptr : (mv : State) → x .byte ≡ 79 → st .full ≡ false → mv ≡ movedTo (x .behind) st → w ≡ lay m (g.pointer s p W.ptr-mut f b) (world o mv) → w ≡ lay m (part.typed s p f b) (world o st)
+  unfolding part.typed g.typeTags pick
   type-mut-ptr mv h u l q = tag-next m s o st w x answered none _ _ (g.pointer s p W.ptr-mut f b) mv 79 h refl u l q refl
 
-  pub type-array : (mv : State) → x .byte ≡ 65 → st .full ≡ false → mv ≡ movedTo (x .behind) st → w ≡ lay m (g.array s p true f b) (world o mv) → w ≡ lay m (g.typed s p f b) (world o st)
-  unfolding g.typed g.typeTags pick
+  pub type-array : (mv : State) → x .byte ≡ 65 → st .full ≡ false → mv ≡ movedTo (x .behind) st → w ≡ lay m (g.array s p true f b) (world o mv) → w ≡ lay m (part.typed s p f b) (world o st)
+  unfolding part.typed g.typeTags pick
   type-array mv h u l q = tag-next m s o st w x answered none _ _ (g.array s p true f b) mv 65 h refl u l q refl
 
-  pub type-slice : (mv : State) → x .byte ≡ 83 → st .full ≡ false → mv ≡ movedTo (x .behind) st → w ≡ lay m (g.array s p false f b) (world o mv) → w ≡ lay m (g.typed s p f b) (world o st)
-  unfolding g.typed g.typeTags pick
+  pub type-slice : (mv : State) → x .byte ≡ 83 → st .full ≡ false → mv ≡ movedTo (x .behind) st → w ≡ lay m (g.array s p false f b) (world o mv) → w ≡ lay m (part.typed s p f b) (world o st)
+  unfolding part.typed g.typeTags pick
   type-slice mv h u l q = tag-next m s o st w x answered none _ _ (g.array s p false f b) mv 83 h refl u l q refl
 
-  pub type-tuple : (mv : State) → x .byte ≡ 84 → st .full ≡ false → mv ≡ movedTo (x .behind) st → w ≡ lay m (g.tuple s p AType f b) (world o mv) → w ≡ lay m (g.typed s p f b) (world o st)
-  unfolding g.typed g.typeTags pick
+  pub type-tuple : (mv : State) → x .byte ≡ 84 → st .full ≡ false → mv ≡ movedTo (x .behind) st → w ≡ lay m (g.tuple s p AType f b) (world o mv) → w ≡ lay m (part.typed s p f b) (world o st)
+  unfolding part.typed g.typeTags pick
   type-tuple mv h u l q = tag-next m s o st w x answered none _ _ (g.tuple s p AType f b) mv 84 h refl u l q refl
 
-  pub type-function : (mv : State) → x .byte ≡ 70 → st .full ≡ false → mv ≡ movedTo (x .behind) st → w ≡ lay m (g.function s p f b) (world o mv) → w ≡ lay m (g.typed s p f b) (world o st)
-  unfolding g.typed g.typeTags pick
+  pub type-function : (mv : State) → x .byte ≡ 70 → st .full ≡ false → mv ≡ movedTo (x .behind) st → w ≡ lay m (g.function s p f b) (world o mv) → w ≡ lay m (part.typed s p f b) (world o st)
+  unfolding part.typed g.typeTags pick
   type-function mv h u l q = tag-next m s o st w x answered none _ _ (g.function s p f b) mv 70 h refl u l q refl
 
-  pub type-object : (mv : State) → x .byte ≡ 68 → st .full ≡ false → mv ≡ movedTo (x .behind) st → w ≡ lay m (g.object s p f b) (world o mv) → w ≡ lay m (g.typed s p f b) (world o st)
-  unfolding g.typed g.typeTags pick
+  pub type-object : (mv : State) → x .byte ≡ 68 → st .full ≡ false → mv ≡ movedTo (x .behind) st → w ≡ lay m (g.object s p f b) (world o mv) → w ≡ lay m (part.typed s p f b) (world o st)
+  unfolding part.typed g.typeTags pick
   type-object mv h u l q = tag-next m s o st w x answered none _ _ (g.object s p f b) mv 68 h refl u l q refl
 
-  pub type-back : (mv : State) → x .byte ≡ 66 → st .full ≡ false → mv ≡ movedTo (x .behind) st → w ≡ lay m (g.back s p Ty f b) (world o mv) → w ≡ lay m (g.typed s p f b) (world o st)
-  unfolding g.typed g.typeTags pick
+  pub type-back : (mv : State) → x .byte ≡ 66 → st .full ≡ false → mv ≡ movedTo (x .behind) st → w ≡ lay m (g.back s p Ty f b) (world o mv) → w ≡ lay m (part.typed s p f b) (world o st)
+  unfolding part.typed g.typeTags pick
   type-back mv h u l q = tag-next m s o st w x answered none _ _ (g.back s p Ty f b) mv 66 h refl u l q refl
 
-  pub type-sub : (mv : State) → x .byte ≡ 87 → st .full ≡ false → mv ≡ movedTo (x .behind) st → w ≡ lay m (g.patterned s p f b) (world o mv) → w ≡ lay m (g.typed s p f b) (world o st)
-  unfolding g.typed g.typeTags pick
+  pub type-sub : (mv : State) → x .byte ≡ 87 → st .full ≡ false → mv ≡ movedTo (x .behind) st → w ≡ lay m (g.patterned s p f b) (world o mv) → w ≡ lay m (part.typed s p f b) (world o st)
+  unfolding part.typed g.typeTags pick
   type-sub mv h u l q = tag-next m s o st w x answered none _ _ (g.patterned s p f b) mv 87 h refl u l q refl
 
-  pub type-named : (x .byte ≡ 82 → ⊥) → (x .byte ≡ 81 → ⊥) → (x .byte ≡ 80 → ⊥) → (x .byte ≡ 79 → ⊥) → (x .byte ≡ 65 → ⊥) → (x .byte ≡ 83 → ⊥) → (x .byte ≡ 84 → ⊥) → (x .byte ≡ 70 → ⊥) → (x .byte ≡ 68 → ⊥) → (x .byte ≡ 66 → ⊥) → (x .byte ≡ 87 → ⊥) → w ≡ lay m (g.named s p f b) (world o st) → w ≡ lay m (g.typed s p f b) (world o st)
-  unfolding g.typed g.named g.typeTags pick
+  pub type-named : (x .byte ≡ 82 → ⊥) → (x .byte ≡ 81 → ⊥) → (x .byte ≡ 80 → ⊥) → (x .byte ≡ 79 → ⊥) → (x .byte ≡ 65 → ⊥) → (x .byte ≡ 83 → ⊥) → (x .byte ≡ 84 → ⊥) → (x .byte ≡ 70 → ⊥) → (x .byte ≡ 68 → ⊥) → (x .byte ≡ 66 → ⊥) → (x .byte ≡ 87 → ⊥) → w ≡ lay m (part.named s p f b) (world o st) → w ≡ lay m (part.typed s p f b) (world o st)
+  unfolding part.typed part.named g.typeTags pick
   type-named n82 n81 n80 n79 n65 n83 n84 n70 n68 n66 n87 q = tag-rest m s o st w x answered none (g.typeTags s p f b) (λ c k j. p .path false f b .run k) (λ j. rw (ne-eqb (x .byte) 82 n82, ne-eqb (x .byte) 81 n81, ne-eqb (x .byte) 80 n80, ne-eqb (x .byte) 79 n79, ne-eqb (x .byte) 65 n65, ne-eqb (x .byte) 83 n83, ne-eqb (x .byte) 84 n84, ne-eqb (x .byte) 70 n70, ne-eqb (x .byte) 68 n68, ne-eqb (x .byte) 66 n66, ne-eqb (x .byte) 87 n87, pick)) q
 
 module _ (m : ℕ) (s : List ℕ) (p : g.Level) (f : Bool) (b : ℕ) (o : List ℕ) (st : State) (w : World) where
-  pub named-in : st .error ≡ 0 → st .place < length s → w ≡ lay m (p .path false f b) (world o st) → w ≡ lay m (g.named s p f b) (world o st)
-  unfolding g.named g.byTag reader pick
-  named-in e h q = arm-run m (g.named s p f b) (p .path false f b) o st w e q (rw (byte-in s (st .place) h))
+  pub named-in : st .error ≡ 0 → st .place < length s → w ≡ lay m (p .path false f b) (world o st) → w ≡ lay m (part.named s p f b) (world o st)
+  unfolding part.named g.byTag reader pick
+  named-in e h q = arm-run m (part.named s p f b) (p .path false f b) o st w e q (rw (byte-in s (st .place) h))
 
-  pub named-out : st .error ≡ 0 → length s ≤ st .place → w ≡ lay m broken (world o st) → w ≡ lay m (g.named s p f b) (world o st)
-  unfolding g.named g.byTag reader pick broken breaks
-  named-out e h q = arm-run m (g.named s p f b) broken o st w e q (rw (byte-out s (st .place) h))
+  pub named-out : st .error ≡ 0 → length s ≤ st .place → w ≡ lay m broken (world o st) → w ≡ lay m (part.named s p f b) (world o st)
+  unfolding part.named g.byTag reader pick broken breaks
+  named-out e h q = arm-run m (part.named s p f b) broken o st w e q (rw (byte-out s (st .place) h))
 
 pub ruleset named-laws = (named-in, named-out)
 
@@ -373,51 +375,51 @@ module _ (m : ℕ) (s : List ℕ) (p : g.Level) (value : Bool) (f : Bool) (b : �
   unfolding g.constTags pick
   con-adt mv h u l q = tag-next m s o st w x answered none _ (g.integer s) (g.adt s p value f b) mv 86 h refl u l q refl
 
-  pub con-lit : (mv : State) → IsLit (x .byte) → st .full ≡ false → mv ≡ movedTo (x .behind) st → w ≡ lay m (g.litBy s p (x .byte) value f b) (world o mv) → w ≡ lay m (g.byTag s tt (g.constTags s p value f b) (g.integer s)) (world o st)
-  unfolding g.constTags g.litBy pick choose
-  con-lit mv h u l q = ⊎-elim (⊎-elim (λ e. tag-next m s o st w x answered none (g.constTags s p value f b) (g.integer s) (g.litBy s p 65 value f b) mv 65 e refl u l (rw e at q) refl) (⊎-elim (λ e. tag-next m s o st w x answered none (g.constTags s p value f b) (g.integer s) (g.litBy s p 84 value f b) mv 84 e refl u l (rw e at q) refl) (λ e. tag-next m s o st w x answered none (g.constTags s p value f b) (g.integer s) (g.litBy s p 101 value f b) mv 101 e refl u l (rw e at q) refl))) (λ r. go (eqb (x .byte) 81) refl r) (h .is)
+  pub con-lit : (mv : State) → IsLit (x .byte) → st .full ≡ false → mv ≡ movedTo (x .behind) st → w ≡ lay m (part.litBy s p (x .byte) value f b) (world o mv) → w ≡ lay m (g.byTag s tt (g.constTags s p value f b) (g.integer s)) (world o st)
+  unfolding g.constTags part.litBy pick choose
+  con-lit mv h u l q = ⊎-elim (⊎-elim (λ e. tag-next m s o st w x answered none (g.constTags s p value f b) (g.integer s) (part.litBy s p 65 value f b) mv 65 e refl u l (rw e at q) refl) (⊎-elim (λ e. tag-next m s o st w x answered none (g.constTags s p value f b) (g.integer s) (part.litBy s p 84 value f b) mv 84 e refl u l (rw e at q) refl) (λ e. tag-next m s o st w x answered none (g.constTags s p value f b) (g.integer s) (part.litBy s p 101 value f b) mv 101 e refl u l (rw e at q) refl))) (λ r. go (eqb (x .byte) 81) refl r) (h .is)
     where
       go : (k : Bool) → eqb (x .byte) 81 ≡ k → (81 ≤ x .byte) × (x .byte < 83) → w ≡ lay m (g.byTag s tt (g.constTags s p value f b) (g.integer s)) (world o st)
-      go true i r = let e : x .byte ≡ 81 = eqb-true (x .byte) 81 i in tag-next m s o st w x answered none (g.constTags s p value f b) (g.integer s) (g.litBy s p 81 value f b) mv 81 e refl u l (rw e at q) refl
-      go false i r = let j = eqb-false (x .byte) 81 i in let e : x .byte ≡ 82 = omega (arith, j) in tag-next m s o st w x answered none (g.constTags s p value f b) (g.integer s) (g.litBy s p 82 value f b) mv 82 e refl u l (rw e at q) refl
+      go true i r = let e : x .byte ≡ 81 = eqb-true (x .byte) 81 i in tag-next m s o st w x answered none (g.constTags s p value f b) (g.integer s) (part.litBy s p 81 value f b) mv 81 e refl u l (rw e at q) refl
+      go false i r = let j = eqb-false (x .byte) 81 i in let e : x .byte ≡ 82 = omega (arith, j) in tag-next m s o st w x answered none (g.constTags s p value f b) (g.integer s) (part.litBy s p 82 value f b) mv 82 e refl u l (rw e at q) refl
 
   pub con-back : (mv : State) (kd : Kind) → kd ≡ if-then value Expr Const → x .byte ≡ 66 → st .full ≡ false → mv ≡ movedTo (x .behind) st → w ≡ lay m (g.back s p kd f b) (world o mv) → w ≡ lay m (g.byTag s tt (g.constTags s p value f b) (g.integer s)) (world o st)
   unfolding g.constTags pick
   con-back mv kd r h u l q = tag-next m s o st w x answered none _ (g.integer s) (g.back s p kd f b) mv 66 h refl u l q (rw r)
 
-  pub con-integer : (Any (x .byte) 65 (84 ∷ 101 ∷ []) → ⊥) → Gap (x .byte) → (x .byte ≡ 112 → ⊥) → (x .byte ≡ 98 → ⊥) → (x .byte ≡ 99 → ⊥) → (x .byte ≡ 86 → ⊥) → (x .byte ≡ 66 → ⊥) → w ≡ lay m (g.integerAt s) (world o st) → w ≡ lay m (g.byTag s tt (g.constTags s p value f b) (g.integer s)) (world o st)
-  unfolding g.integerAt g.constTags pick
+  pub con-integer : (Any (x .byte) 65 (84 ∷ 101 ∷ []) → ⊥) → Gap (x .byte) → (x .byte ≡ 112 → ⊥) → (x .byte ≡ 98 → ⊥) → (x .byte ≡ 99 → ⊥) → (x .byte ≡ 86 → ⊥) → (x .byte ≡ 66 → ⊥) → w ≡ lay m (part.integerAt s) (world o st) → w ≡ lay m (g.byTag s tt (g.constTags s p value f b) (g.integer s)) (world o st)
+  unfolding part.integerAt g.constTags pick
   con-integer nn gp n112 n98 n99 n86 n66 q = tag-rest m s o st w x answered none (g.constTags s p value f b) (g.integer s) (λ j. rw (ne-eqb (x .byte) 112 n112, ne-eqb (x .byte) 98 n98, ne-eqb (x .byte) 99 n99, ne-eqb (x .byte) 101 (λ e. nn (inr (inr e))), ne-eqb (x .byte) 82 (gp .second), ne-eqb (x .byte) 81 (gp .first), ne-eqb (x .byte) 65 (λ e. nn (inl e)), ne-eqb (x .byte) 84 (λ e. nn (inr (inl e))), ne-eqb (x .byte) 86 n86, ne-eqb (x .byte) 66 n66, pick)) q
 
 -- a string that is referred to: y is what `string_mark` answered
 module _ (m : ℕ) (s : List ℕ) (p : g.Level) (t : ℕ) (value f : Bool) (b : ℕ) (o : List ℕ) (st : State) (w : World) (y : ℕ) (free : st .full ≡ false) (none : st .error ≡ 0) (eaten : y ≡ markAt s (st .place) t) where
-  lit-here : (mv : State) → eqb t 82 ≡ true → (y ≡ st .place → ⊥) → mv ≡ movedTo y st → w ≡ lay m (g.literal s) (world o mv) → w ≡ lay m (g.litBy s p t value f b) (world o st)
-  unfolding g.litBy g.refConst choose markAt
+  lit-here : (mv : State) → eqb t 82 ≡ true → (y ≡ st .place → ⊥) → mv ≡ movedTo y st → w ≡ lay m (g.literal s) (world o mv) → w ≡ lay m (part.litBy s p t value f b) (world o st)
+  unfolding part.litBy g.refConst choose markAt
   lit-here mv e h l q = rw e (eat-yes m s 101 _ o st w y free none (eaten ∙ rw e) mv h l q)
 
   lit-else : eqb t 82 ≡ false → y ≡ st .place
   unfolding markAt
   lit-else e = eaten ∙ rw e
 
-  pub lit-string : (mv : State) → (y ≡ st .place → ⊥) → mv ≡ movedTo y st → w ≡ lay m (g.literal s) (world o mv) → w ≡ lay m (g.litBy s p t value f b) (world o st)
+  pub lit-string : (mv : State) → (y ≡ st .place → ⊥) → mv ≡ movedTo y st → w ≡ lay m (g.literal s) (world o mv) → w ≡ lay m (part.litBy s p t value f b) (world o st)
   lit-string mv h l q = go (eqb t 82) refl
     where
-      go : (k : Bool) → eqb t 82 ≡ k → w ≡ lay m (g.litBy s p t value f b) (world o st)
+      go : (k : Bool) → eqb t 82 ≡ k → w ≡ lay m (part.litBy s p t value f b) (world o st)
       go true e = lit-here mv e h l q
       go false e = absurd (h (lit-else e))
 
-  braced-here : eqb t 82 ≡ true → y ≡ st .place → w ≡ lay m (g.bracedBy s p 82 value f b) (world o st) → w ≡ lay m (g.litBy s p t value f b) (world o st)
-  unfolding g.litBy g.refConst choose markAt
+  braced-here : eqb t 82 ≡ true → y ≡ st .place → w ≡ lay m (g.bracedBy s p 82 value f b) (world o st) → w ≡ lay m (part.litBy s p t value f b) (world o st)
+  unfolding part.litBy g.refConst choose markAt
   braced-here e h q = rw e (eat-no m s 101 _ o st w y free none (eaten ∙ rw e) st h refl q)
 
-  braced-else : eqb t 82 ≡ false → w ≡ lay m (g.bracedBy s p t value f b) (world o st) → w ≡ lay m (g.litBy s p t value f b) (world o st)
-  unfolding g.litBy choose
+  braced-else : eqb t 82 ≡ false → w ≡ lay m (g.bracedBy s p t value f b) (world o st) → w ≡ lay m (part.litBy s p t value f b) (world o st)
+  unfolding part.litBy choose
   braced-else e q = rw e q
 
-  pub lit-braced : y ≡ st .place → w ≡ lay m (g.bracedBy s p t value f b) (world o st) → w ≡ lay m (g.litBy s p t value f b) (world o st)
+  pub lit-braced : y ≡ st .place → w ≡ lay m (g.bracedBy s p t value f b) (world o st) → w ≡ lay m (part.litBy s p t value f b) (world o st)
   lit-braced h q = go (eqb t 82) refl
     where
-      go : (k : Bool) → eqb t 82 ≡ k → w ≡ lay m (g.litBy s p t value f b) (world o st)
+      go : (k : Bool) → eqb t 82 ≡ k → w ≡ lay m (part.litBy s p t value f b) (world o st)
       go true e = let i : t ≡ 82 = eqb-true t 82 e in braced-here e h (rw i at q)
       go false e = braced-else e q
 

@@ -34,7 +34,9 @@ use Rattle.printer.specs.declared.read.Flag.{Flag}
 use Rattle.printer.specs.declared.read.Flag.the-variants.{Of as Is, Invalid as NoFlag}
 use Rattle.printer.specs.declared.read.Literal.{Literal}
 use Rattle.printer.specs.declared.read.Literal.the-variants.{Of as Spelt, Invalid as NoLiteral}
+use Rattle.printer.specs.Letters as letters
 use Rattle.printer.specs.Model as g
+use Rattle.printer.specs.Parts as part
 use Rattle.printer.specs.Model.{sayIf}
 use Rattle.printer.proofs.LayLaws.{lay-nil, lay-off, lays-moved}
 use Rattle.printer.proofs.StateLaws.{Halted, tests}
@@ -395,40 +397,40 @@ module _ (m : ℕ) (s : List ℕ) (t : ℕ) (o : List ℕ) (st mv : State) (w : 
 pub ruleset int-laws = (int-plain, int-minus, tests, needs)
 
 -- by the letter of the type: u and d are what `is_unsigned` and `is_signed` answered
-module _ (m : ℕ) (s : List ℕ) (o : List ℕ) (st mv : State) (w : World) (x : Tag) (answered : x ≡ tagAt s (st .place)) (none : st .error ≡ 0) (u : Bool) (judged : u ≡ g.isUnsigned (x .byte)) where
-  unsigned-some : (c : ℕ) → g.isUnsigned c ≡ true → eqb c 0 ≡ false
-  unfolding g.isUnsigned g.anyOf
+module _ (m : ℕ) (s : List ℕ) (o : List ℕ) (st mv : State) (w : World) (x : Tag) (answered : x ≡ tagAt s (st .place)) (none : st .error ≡ 0) (u : Bool) (judged : u ≡ letters.isUnsigned (x .byte)) where
+  unsigned-some : (c : ℕ) → letters.isUnsigned c ≡ true → eqb c 0 ≡ false
+  unfolding letters.isUnsigned letters.anyOf
   unsigned-some zero h = absurd (true-false (sym h))
   unsigned-some (suc c) h = ne-eqb (suc c) 0 (λ e. absurd (omega (arith, e)))
 
-  signed-some : (c : ℕ) → g.isSigned c ≡ true → eqb c 0 ≡ false
-  unfolding g.isSigned g.anyOf
+  signed-some : (c : ℕ) → letters.isSigned c ≡ true → eqb c 0 ≡ false
+  unfolding letters.isSigned letters.anyOf
   signed-some zero h = absurd (true-false (sym h))
   signed-some (suc c) h = ne-eqb (suc c) 0 (λ e. absurd (omega (arith, e)))
 
-  pub integer-unsigned : u ≡ true → st .full ≡ false → mv ≡ movedTo (x .behind) st → w ≡ lay m (g.uint s (x .byte)) (world o mv) → w ≡ lay m (g.integerAt s) (world o st)
-  unfolding g.integerAt g.integer pick
+  pub integer-unsigned : u ≡ true → st .full ≡ false → mv ≡ movedTo (x .behind) st → w ≡ lay m (g.uint s (x .byte)) (world o mv) → w ≡ lay m (part.integerAt s) (world o st)
+  unfolding part.integerAt g.integer pick
   integer-unsigned h f l p = tag-next m s o st w x answered none [] (g.integer s) (g.uint s (x .byte)) mv (x .byte) refl (unsigned-some (x .byte) (sym judged ∙ h)) f l p (rw (sym judged ∙ h))
 
-  module _ (d : Bool) (signed : d ≡ g.isSigned (x .byte)) (other : u ≡ false) where
-    pub integer-signed : d ≡ true → st .full ≡ false → mv ≡ movedTo (x .behind) st → w ≡ lay m (g.int s (x .byte)) (world o mv) → w ≡ lay m (g.integerAt s) (world o st)
-    unfolding g.integerAt g.integer pick
+  module _ (d : Bool) (signed : d ≡ letters.isSigned (x .byte)) (other : u ≡ false) where
+    pub integer-signed : d ≡ true → st .full ≡ false → mv ≡ movedTo (x .behind) st → w ≡ lay m (g.int s (x .byte)) (world o mv) → w ≡ lay m (part.integerAt s) (world o st)
+    unfolding part.integerAt g.integer pick
     integer-signed h f l p = tag-next m s o st w x answered none [] (g.integer s) (g.int s (x .byte)) mv (x .byte) refl (signed-some (x .byte) (sym signed ∙ h)) f l p (rw (sym judged ∙ other, sym signed ∙ h))
 
-    pub integer-none : d ≡ false → w ≡ lay m broken (world o st) → w ≡ lay m (g.integerAt s) (world o st)
-    integer-none h p = unfold g.integerAt in (tag-same m s o st w x answered none (g.integer s) g.unknown (λ j. unfold g.integer in (rw (sym judged ∙ other, sym signed ∙ h))) (tag-unknown m s o st w x answered none [] (λ j. unfold pick in refl) p))
+    pub integer-none : d ≡ false → w ≡ lay m broken (world o st) → w ≡ lay m (part.integerAt s) (world o st)
+    integer-none h p = unfold part.integerAt in (tag-same m s o st w x answered none (g.integer s) g.unknown (λ j. unfold g.integer in (rw (sym judged ∙ other, sym signed ∙ h))) (tag-unknown m s o st w x answered none [] (λ j. unfold pick in refl) p))
 
 pub ruleset integer-laws = (integer-unsigned, integer-signed, integer-none, tests, needs)
 
 -- ---- where no level is left
 module _ (m : ℕ) (s : List ℕ) (o : List ℕ) (st : State) (w : World) where
-  pub level-in : st .error ≡ 0 → st .place < length s → w ≡ lay m (breaks 1) (world o st) → w ≡ lay m (g.noLevel s) (world o st)
-  unfolding g.noLevel g.byTag reader pick breaks
-  level-in e h p = arm-run m (g.noLevel s) (breaks 1) o st w e p (rw (byte-in s (st .place) h))
+  pub level-in : st .error ≡ 0 → st .place < length s → w ≡ lay m (breaks 1) (world o st) → w ≡ lay m (part.noLevel s) (world o st)
+  unfolding part.noLevel g.byTag reader pick breaks
+  level-in e h p = arm-run m (part.noLevel s) (breaks 1) o st w e p (rw (byte-in s (st .place) h))
 
-  pub level-out : st .error ≡ 0 → length s ≤ st .place → w ≡ lay m broken (world o st) → w ≡ lay m (g.noLevel s) (world o st)
-  unfolding g.noLevel g.byTag reader pick broken breaks
-  level-out e h p = arm-run m (g.noLevel s) broken o st w e p (rw (byte-out s (st .place) h))
+  pub level-out : st .error ≡ 0 → length s ≤ st .place → w ≡ lay m broken (world o st) → w ≡ lay m (part.noLevel s) (world o st)
+  unfolding part.noLevel g.byTag reader pick broken breaks
+  level-out e h p = arm-run m (part.noLevel s) broken o st w e p (rw (byte-out s (st .place) h))
 
 pub ruleset level-laws = (level-in, level-out, tests, needs)
 
@@ -475,16 +477,16 @@ abbrev pub Any : ℕ → ℕ → List ℕ → Type 0
 Any c k [] = c ≡ k
 Any c k (l ∷ ls) = _⊎_ (c ≡ k) (Any c l ls)
 
-pub any-true : (c k : ℕ) (ks : List ℕ) → Any c k ks → true ≡ g.anyOf c (k ∷ ks)
-unfolding g.anyOf
+pub any-true : (c k : ℕ) (ks : List ℕ) → Any c k ks → true ≡ letters.anyOf c (k ∷ ks)
+unfolding letters.anyOf
 any-true c k [] h = rw (eq-eqb c k h)
 any-true c k (l ∷ ls) h = ⊎-elim (λ e. rw (eq-eqb c k e)) (λ r. go (eqb c k) (any-true c l ls r)) h
   where
-    go : (t : Bool) → true ≡ g.anyOf c (l ∷ ls) → true ≡ if-then t true (g.anyOf c (l ∷ ls))
+    go : (t : Bool) → true ≡ letters.anyOf c (l ∷ ls) → true ≡ if-then t true (letters.anyOf c (l ∷ ls))
     go true e = refl
     go false e = e
 
-pub any-false : (c k : ℕ) (ks : List ℕ) → (Any c k ks → ⊥) → false ≡ g.anyOf c (k ∷ ks)
-unfolding g.anyOf
+pub any-false : (c k : ℕ) (ks : List ℕ) → (Any c k ks → ⊥) → false ≡ letters.anyOf c (k ∷ ks)
+unfolding letters.anyOf
 any-false c k [] h = rw (ne-eqb c k h)
 any-false c k (l ∷ ls) h = rw (ne-eqb c k (λ e. h (inl e))) (any-false c l ls (λ r. h (inr r)))

@@ -26,6 +26,7 @@ use Rattle.pieces.specs.Quoted.{charsOf}
 use Rattle.pieces.specs.Piece.{Piece, word, letter, run, abi, name, number, hash, life, basic, kind, quote}
 use Rattle.pieces.specs.Words as W
 use Rattle.printer.specs.Says.{U, invalid, tooDeep, Res, ok, bad, Says, refused, next, _>>=_, _then_, give, emit, onError, broken, reader, still, Got, got, lost, need, choose, mute, caught, Tags, pick}
+use Rattle.printer.specs.Letters.{'A', 'B', 'C', 'D', 'E', 'F', 'G', 'I', 'K', 'L', 'M', 'N', 'O', 'P', 'Q', 'R', 'S', 'T', 'U', 'V', 'W', 'X', 'Y', 'b', 'c', 'e', 'n', 'p', 's', 'u', 'w', isUnsigned, isSigned}
 use Rattle.printer.specs.Readings.{letterAt, namedAt, lifeAt, headAt, flagAt, scalarAt, literalAt}
 use Rattle.printer.specs.declared.read.Letter.{Letter}
 use Rattle.printer.specs.declared.read.Letter.the-variants.{Of as Ns, Invalid as NoLetter}
@@ -41,130 +42,6 @@ use Rattle.printer.specs.declared.kinds.Kind.{Kind}
 use Rattle.printer.specs.declared.kinds.Kind.the-variants.{Path, Value as InValue, Ty, Const, Expr}
 use Rattle.printer.specs.declared.kinds.Item.{Item}
 use Rattle.printer.specs.declared.kinds.Item.the-variants.{Ty as AType, Arg, Expr as AValue, Field, Trait}
-
--- ---- the letters of the grammar
-abbrev pub 'A' : ℕ
-'A' = 65
-
-abbrev pub 'B' : ℕ
-'B' = 66
-
-abbrev pub 'C' : ℕ
-'C' = 67
-
-abbrev pub 'D' : ℕ
-'D' = 68
-
-abbrev pub 'E' : ℕ
-'E' = 69
-
-abbrev pub 'F' : ℕ
-'F' = 70
-
-abbrev pub 'G' : ℕ
-'G' = 71
-
-abbrev pub 'I' : ℕ
-'I' = 73
-
-abbrev pub 'K' : ℕ
-'K' = 75
-
-abbrev pub 'L' : ℕ
-'L' = 76
-
-abbrev pub 'M' : ℕ
-'M' = 77
-
-abbrev pub 'N' : ℕ
-'N' = 78
-
-abbrev pub 'O' : ℕ
-'O' = 79
-
-abbrev pub 'P' : ℕ
-'P' = 80
-
-abbrev pub 'Q' : ℕ
-'Q' = 81
-
-abbrev pub 'R' : ℕ
-'R' = 82
-
-abbrev pub 'S' : ℕ
-'S' = 83
-
-abbrev pub 'T' : ℕ
-'T' = 84
-
-abbrev pub 'U' : ℕ
-'U' = 85
-
-abbrev pub 'V' : ℕ
-'V' = 86
-
-abbrev pub 'W' : ℕ
-'W' = 87
-
-abbrev pub 'X' : ℕ
-'X' = 88
-
-abbrev pub 'Y' : ℕ
-'Y' = 89
-
-abbrev pub 'a' : ℕ
-'a' = 97
-
-abbrev pub 'b' : ℕ
-'b' = 98
-
-abbrev pub 'c' : ℕ
-'c' = 99
-
-abbrev pub 'e' : ℕ
-'e' = 101
-
-abbrev pub 'h' : ℕ
-'h' = 104
-
-abbrev pub 'i' : ℕ
-'i' = 105
-
-abbrev pub 'j' : ℕ
-'j' = 106
-
-abbrev pub 'l' : ℕ
-'l' = 108
-
-abbrev pub 'm' : ℕ
-'m' = 109
-
-abbrev pub 'n' : ℕ
-'n' = 110
-
-abbrev pub 'o' : ℕ
-'o' = 111
-
-abbrev pub 'p' : ℕ
-'p' = 112
-
-abbrev pub 's' : ℕ
-'s' = 115
-
-abbrev pub 't' : ℕ
-'t' = 116
-
-abbrev pub 'u' : ℕ
-'u' = 117
-
-abbrev pub 'w' : ℕ
-'w' = 119
-
-abbrev pub 'x' : ℕ
-'x' = 120
-
-abbrev pub 'y' : ℕ
-'y' = 121
 
 -- ---- words
 abbrev pub say : ℕ → Says U
@@ -255,16 +132,6 @@ gotHex at NoHex = lost invalid
 abbrev pub gotLiteral : ℕ → Literal → Got (ℕ × ℕ)
 gotLiteral at (Spelt e next) = got (at, e) next
 gotLiteral at NoLiteral = lost invalid
-
-unfoldable pub anyOf : ℕ → List ℕ → Bool
-anyOf c [] = false
-anyOf c (k ∷ ks) = if-then (eqb c k) true (anyOf c ks)
-
-unfoldable pub isUnsigned : ℕ → Bool
-isUnsigned c = anyOf c ('h' ∷ 'j' ∷ 'm' ∷ 'o' ∷ 't' ∷ 'y' ∷ [])
-
-unfoldable pub isSigned : ℕ → Bool
-isSigned c = anyOf c ('a' ∷ 'i' ∷ 'l' ∷ 'n' ∷ 's' ∷ 'x' ∷ [])
 
 -- a byte and the place behind it, or none
 abbrev pub onByte : {A : Type 0} → Byte → (ℕ → ℕ → A) → A → A
@@ -399,13 +266,6 @@ module _ (s : List ℕ) where
   -- by the letter of its type: h j m o t y are unsigned, a i l n s x signed, and no other is an integer's
   unfoldable pub integer : ℕ → ℕ → ℕ → Res U
   integer c i j = if-then (isUnsigned c) (uint c .run j) (if-then (isSigned c) (int c .run j) (refused tt invalid i))
-
-  unfoldable pub integerAt : Says U
-  integerAt = byTag tt [] integer
-
-  -- what needs a level where none is left
-  unfoldable pub noLevel : Says U
-  noLevel = byTag tt [] (λ c i j. refused tt tooDeep i)
 
   unfoldable pub boolean : Says U
   boolean = need (λ i. gotFlag (flagAt s i)) tt (λ t. say (if-then t W.true W.false))
@@ -599,9 +459,6 @@ module _ (s : List ℕ) where
     unfoldable pub refConst : Bool → Deep U
     refConst value f b = eat 'e' >>= λ y. choose y literal (bracedBy 'R' value f b)
 
-    unfoldable pub litBy : ℕ → Bool → Deep U
-    litBy tag value f b = choose (eqb tag 'R') (refConst value f b) (bracedBy tag value f b)
-
     -- V: a value of a struct or an enum: its path, and its fields. Where those are not read, no brace closes it
     unfoldable pub fields : ℕ → Item → ℕ → Bool → Deep U
     fields from k to value f b = between from k to f b then sayIf (not value) W.close
@@ -641,13 +498,6 @@ module _ (s : List ℕ) where
         ('D', object f b) ∷
         ('B', back Ty f b) ∷
         ('W', patterned f b) ∷ []
-
-    -- a type that is none of these is its path
-    unfoldable pub named : Deep U
-    named f b = byTag tt [] (λ c i j. p .path false f b .run i)
-
-    unfoldable pub typed : Deep U
-    typed f b = byTag tt (typeTags f b) (λ c i j. p .path false f b .run i)
 
     unfoldable pub constTags : Bool → Bool → ℕ → Tags U
     constTags value f b =

@@ -25,6 +25,7 @@ ghost use lib.ListN.{length};
 ghost use Rattle.parser.specs.Digits.{if-then};
 ghost use Rattle.printer.specs.Lay.{Going, stateOf, at, given, lay, lays, follows};
 ghost use Rattle.printer.specs.Model as g;
+ghost use Rattle.printer.specs.Parts as part;
 
 // A path: counts a level, then goes by its tag.
 pub fn path(
@@ -288,7 +289,7 @@ fn see(
     }
 }
 
-// A type, with an optional `w` before it. The place is set only where there is one: that it is kept is what the next read waits for.
+// A type, with an optional `w` before it. Without one nothing is stored, since the next read would wait for that.
 fn ty(s: &[u8], out: &mut [u8], st: &mut [usize; 4], left: usize, binder: u64, mode: u8)
     ensures { λ _. ⌜ at (now (out .exit)) (now (st .exit)) ≡ lay mode (g.type (now (s .entry)) (g.level (now (s .entry)) left) (follows mode) binder) (at (now (out .entry)) (now (st .entry))) ⌝ }
 {
@@ -331,7 +332,7 @@ fn bar(s: &[u8], out: &mut [u8], st: &mut [usize; 4], left: usize, binder: u64, 
 // A type that is no basic one by its tag, with the level counted.
 fn tys(s: &[u8], out: &mut [u8], st: &mut [usize; 4], left: usize, binder: u64, mode: u8)
     requires { ⌜ Going (stateOf (now st)) ⌝ }
-    ensures { λ _. ⌜ at (now (out .exit)) (now (st .exit)) ≡ lay mode (g.typed (now (s .entry)) (g.level (now (s .entry)) left) (follows mode) binder) (at (now (out .entry)) (now (st .entry))) ⌝ }
+    ensures { λ _. ⌜ at (now (out .exit)) (now (st .exit)) ≡ lay mode (part.typed (now (s .entry)) (g.level (now (s .entry)) left) (follows mode) binder) (at (now (out .entry)) (now (st .entry))) ⌝ }
 {
     let t = look(s, st[0]);
     let b = t.byte;
@@ -387,7 +388,7 @@ fn tys(s: &[u8], out: &mut [u8], st: &mut [usize; 4], left: usize, binder: u64, 
 // A type by its path, if a byte is there.
 fn nam(s: &[u8], out: &mut [u8], st: &mut [usize; 4], left: usize, binder: u64, mode: u8)
     requires { ⌜ Going (stateOf (now st)) ⌝ }
-    ensures { λ _. ⌜ at (now (out .exit)) (now (st .exit)) ≡ lay mode (g.named (now (s .entry)) (g.level (now (s .entry)) left) (follows mode) binder) (at (now (out .entry)) (now (st .entry))) ⌝ }
+    ensures { λ _. ⌜ at (now (out .exit)) (now (st .exit)) ≡ lay mode (part.named (now (s .entry)) (g.level (now (s .entry)) left) (follows mode) binder) (at (now (out .entry)) (now (st .entry))) ⌝ }
 {
     if st[0] < s.len() {
         path(s, out, st, false, left, binder, mode);
@@ -892,7 +893,7 @@ fn lit(
     mode: u8,
 )
     requires { ⌜ Going (stateOf (now st)) ⌝ }
-    ensures { λ _. ⌜ at (now (out .exit)) (now (st .exit)) ≡ lay mode (g.litBy (now (s .entry)) (g.level (now (s .entry)) left) b value (follows mode) binder) (at (now (out .entry)) (now (st .entry))) ⌝ }
+    ensures { λ _. ⌜ at (now (out .exit)) (now (st .exit)) ≡ lay mode (part.litBy (now (s .entry)) (g.level (now (s .entry)) left) b value (follows mode) binder) (at (now (out .entry)) (now (st .entry))) ⌝ }
 {
     let place = st[0];
     let behind = crate::read::string_mark(s, place, b);

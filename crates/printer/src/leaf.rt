@@ -23,7 +23,9 @@ ghost use Rattle.pieces.specs.Words as W;
 ghost use Rattle.printer.specs.Says.{emit};
 ghost use Rattle.printer.specs.Readings.{Within};
 ghost use Rattle.printer.specs.Lay.{Going, stateOf, at, given, lay, lays, follows};
+ghost use Rattle.printer.specs.Letters as letters;
 ghost use Rattle.printer.specs.Model as g;
+ghost use Rattle.printer.specs.Parts as part;
 
 // An identifier that was read.
 fn name(
@@ -45,7 +47,7 @@ fn name(
 // What needs a level where none is left: the end of the symbol is Invalid all the same.
 pub fn no_level(s: &[u8], out: &mut [u8], st: &mut [usize; 4], mode: u8)
     requires { ⌜ Going (stateOf (now st)) ⌝ }
-    ensures { λ _. ⌜ at (now (out .exit)) (now (st .exit)) ≡ lay mode (g.noLevel (now (s .entry))) (at (now (out .entry)) (now (st .entry))) ⌝ }
+    ensures { λ _. ⌜ at (now (out .exit)) (now (st .exit)) ≡ lay mode (part.noLevel (now (s .entry))) (at (now (out .entry)) (now (st .entry))) ⌝ }
 {
     if st[0] < s.len() {
         text::too_deep(out, st, mode);
@@ -523,7 +525,7 @@ pub fn int(s: &[u8], out: &mut [u8], st: &mut [usize; 4], tag: u8, mode: u8)
 }
 
 fn is_unsigned(c: u8) -> bool
-    ensures { λ r. ⌜ r ≡ g.isUnsigned c ⌝ }
+    ensures { λ r. ⌜ r ≡ letters.isUnsigned c ⌝ }
 {
     match c {
         b'h' | b't' | b'm' | b'y' | b'o' | b'j' => true,
@@ -532,7 +534,7 @@ fn is_unsigned(c: u8) -> bool
 }
 
 fn is_signed(c: u8) -> bool
-    ensures { λ r. ⌜ r ≡ g.isSigned c ⌝ }
+    ensures { λ r. ⌜ r ≡ letters.isSigned c ⌝ }
 {
     match c {
         b'a' | b's' | b'l' | b'x' | b'n' | b'i' => true,
@@ -543,7 +545,7 @@ fn is_signed(c: u8) -> bool
 // An integer, by the letter of its type.
 pub fn integer(s: &[u8], out: &mut [u8], st: &mut [usize; 4], mode: u8)
     requires { ⌜ Going (stateOf (now st)) ⌝ }
-    ensures { λ _. ⌜ at (now (out .exit)) (now (st .exit)) ≡ lay mode (g.integerAt (now (s .entry))) (at (now (out .entry)) (now (st .entry))) ⌝ }
+    ensures { λ _. ⌜ at (now (out .exit)) (now (st .exit)) ≡ lay mode (part.integerAt (now (s .entry))) (at (now (out .entry)) (now (st .entry))) ⌝ }
 {
     let t = look(s, st[0]);
     let letter = t.byte;
