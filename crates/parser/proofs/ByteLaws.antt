@@ -1,14 +1,14 @@
 -- Single bytes: the text that is left at a place, by whether the place is inside, and what `eat`, `next` and `namespace` answer. Assumes nothing.
-use mathlib.Core.Path.{◌≡◌, refl, sym, ap, ◌∙◌}
-use mathlib.Core.List.{List, [], ◌∷◌}
-use Prim.Native.Nat.{ℕ, zero, suc, ◌+◌, ◌≤◌, ◌<◌}
+use mathlib.Core.Path.{◌≡◌, sym}
+use mathlib.Core.List.{List}
+use Prim.Native.Nat.{ℕ, ◌+◌, ◌≤◌, ◌<◌}
 use native.Mathlib.Decide.{dec_lt}
 use native.Mathlib.Omega.{arith}
 use borrow.Author.Rules.{rules}
 use borrow.Author.Tests.{le-leb, lt-leb, eq-eqb, ne_eqb}
-use lib.ListN.{length, get_or, drop, drop_of_length-le, get_or-eq_default}
+use lib.ListN.{length, get_or, drop_of_length-le, get_or-eq_default}
 use lib.Seq.{drop-cons}
-use Rattle.parser.specs.Digits.{if-then, within}
+use Rattle.parser.specs.Digits.{within}
 use Rattle.parser.specs.Bytes.{past, past_first, byte_at, first_byte, space_at, space_of}
 use Rattle.parser.specs.declared.bytes.Byte.{Byte}
 use Rattle.parser.specs.declared.bytes.Byte.TheVariants.{Read, Invalid as NoByte}

@@ -1,5 +1,5 @@
 -- What a byte counts as a digit, a run of digits one digit on, and the value of digits, over any base. Assumes nothing.
-use mathlib.Core.Path.{◌≡◌, refl, sym, ap, ◌∙◌}
+use mathlib.Core.Path.{◌≡◌, refl, sym, ap}
 use mathlib.Core.Bool.{Bool, true, false}
 use lib.Dec.{leb}
 use mathlib.Core.List.{List, [], ◌∷◌}

@@ -2,7 +2,7 @@
 use mathlib.Core.Path.{◌≡◌, refl, sym, ap, ◌∙◌}
 use mathlib.Core.Bool.{Bool, true, false}
 use mathlib.Core.List.{List, [], ◌∷◌}
-use Prim.Native.Nat.{ℕ, zero, suc, ◌+◌, ◌-◌, ◌*◌, ◌^◌, ◌≤◌, ◌<◌}
+use Prim.Native.Nat.{ℕ, zero, suc, ◌+◌, ◌-◌, ◌^◌, ◌≤◌, ◌<◌}
 use native.Mathlib.Omega.{arith}
 use native.Mathlib.Nat.{add-zero}
 use borrow.Author.Tests.{lt-ltb, le-ltb, eq-eqb, ne_eqb, ltb-true, ltb-false}
@@ -11,10 +11,9 @@ use mir.Val.{Fits as Fits·}
 use mir.Syntax.{w64}
 use lib.Dec.{ltb, eqb}
 use lib.ListN.{length, get_or, drop}
-use native.Mathlib.Decide.{dec_lt}
 use Rattle.parser.specs.Digits.{if-then, within, digit_of, digits, value}
 use Rattle.parser.specs.Bytes.{past}
-use Rattle.parser.specs.Number.{first_digit, digit_at, number_at, run_of, small, counted, integer62, raised, optional62, decimal, length10, hex_at, below, back_at}
+use Rattle.parser.specs.Number.{first_digit, digit_at, number_at, small, counted, integer62, raised, optional62, decimal, length10, hex_at, below, back_at}
 use Rattle.parser.specs.declared.number.Run.{Run}
 use Rattle.parser.specs.declared.number.Run.TheVariants.{Fits, Over}
 use Rattle.parser.specs.declared.number.Num.{Num}
@@ -171,6 +170,10 @@ module _ (s : List ℕ) (at tag m : ℕ) (eaten : m ≡ past tag s at) where
 pub ruleset optional-laws = (optional-absent, optional-invalid, optional-max, optional-value, rules)
 
 -- ---- an identifier's length: m is what `digit_10` answered, n what `number` answered
+decimal-zero : (d e at : ℕ) (ds others : List ℕ) → ds ≡ d ∷ others → e ≡ at + 1 → d ≡ 0 → Value 0 e ≡ decimal ds at
+unfolding decimal
+decimal-zero d e at ds others are next z = rw (are, z, next)
+
 decimal-nonzero : (d : ℕ) (ds : List ℕ) (at : ℕ) → (d ≡ 0 → ⊥) → decimal (d ∷ ds) at ≡ small (value 10 (d ∷ ds)) (at + length (d ∷ ds))
 unfolding decimal
 decimal-nonzero zero ds at h = absurd (h refl)
@@ -203,8 +206,8 @@ module _ (s : List ℕ) (at : ℕ) (m : Num) (answered : m ≡ digit_at 10 s at)
     lead = leads (digits 10 (drop at s)) (sym known ∙ answered)
 
     pub length-zero : d ≡ 0 → Value 0 e ≡ length10 s at
-    unfolding length10 decimal
-    length-zero z = rw (lead.are, z, lead.next)
+    unfolding length10
+    length-zero z = decimal-zero d e at (digits 10 (drop at s)) lead.others lead.are lead.next z
 
     module _ (some : d ≡ 0 → ⊥) (n : Run) (numbered : n ≡ number_at 10 s at) where
       many : length10 s at ≡ small (value 10 (digits 10 (drop at s))) (at + length (digits 10 (drop at s)))

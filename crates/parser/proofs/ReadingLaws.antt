@@ -1,7 +1,7 @@
 -- A number that is being read, over any base: what a loop that takes a digit a turn keeps. Assumes nothing.
 use mathlib.Core.Path.{◌≡◌, refl, sym, ap, ◌∙◌}
 use mathlib.Core.List.{List, [], ◌∷◌}
-use Prim.Native.Nat.{ℕ, zero, suc, ◌+◌, ◌-◌, ◌*◌, ◌/◌, ◌^◌, ◌≤◌, ◌<◌}
+use Prim.Native.Nat.{ℕ, ◌+◌, ◌-◌, ◌*◌, ◌/◌, ◌^◌, ◌≤◌, ◌<◌}
 use native.Mathlib.Nat.{le-div_iff_mul-le, div-lt_iff_lt-mul}
 use native.Mathlib.Omega.{arith}
 use borrow.Author.Rules.{rules}
@@ -11,7 +11,6 @@ use borrow.Author.Tests.{lt-ltb, le-ltb}
 use lib.ListN.{length, get_or, drop}
 use Rattle.parser.specs.Digits.{digit_of, digits, value}
 use Rattle.parser.specs.Number.{number_at}
-use Rattle.parser.specs.declared.number.Run.{Run}
 use Rattle.parser.specs.declared.number.Run.TheVariants.{Fits, Over}
 use Rattle.parser.proofs.DigitLaws.{Along, along-next, along-none, along-past, digit-62, digits_more, digits-none, digits-past, onto, onto-none, onto-nil, onto-more, onto-le}
 

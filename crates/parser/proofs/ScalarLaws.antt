@@ -1,11 +1,10 @@
 -- A value is a scalar by the first test that tells. Assumes nothing.
 use mathlib.Core.Path.{◌≡◌}
-use mathlib.Core.Bool.{Bool, true, false}
+use mathlib.Core.Bool.{true, false}
 use Prim.Native.Nat.{ℕ, ◌≤◌, ◌<◌}
 use borrow.Author.Rules.{rules}
 use borrow.Author.Tests.{lt-ltb, le-ltb}
 use lib.Dec.{ltb}
-use Rattle.parser.specs.Digits.{if-then}
 use Rattle.parser.specs.Scalar.{is_scalar}
 
 module _ (v : ℕ) where

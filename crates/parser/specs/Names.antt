@@ -1,5 +1,5 @@
 -- Identifiers at a place. Assumes nothing: these are definitions.
-use Rattle.std.specs.Prelude.{Bool, true, false, List, [], ◌∷◌, ℕ, ◌+◌, ◌-◌, eqb, leb, length, take, drop}
+use Rattle.std.specs.Prelude.{List, [], ◌∷◌, ℕ, ◌+◌, ◌-◌, eqb, leb, length, take, drop}
 use Rattle.parser.specs.Digits.{if-then}
 use Rattle.parser.specs.Bytes.{past}
 use Rattle.parser.specs.Number.{length10}

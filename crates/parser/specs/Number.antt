@@ -1,6 +1,6 @@
 -- The number readers' answers at a place. Assumes nothing: these are definitions.
-use Rattle.std.specs.Prelude.{List, [], ◌∷◌, ℕ, zero, suc, ◌+◌, ◌-◌, ◌^◌, ltb, leb, eqb, length, drop, get_or}
-use Rattle.parser.specs.Digits.{digits, digit_of, value, if-then}
+use Rattle.std.specs.Prelude.{List, [], ◌∷◌, ℕ, zero, suc, ◌+◌, ◌-◌, ◌^◌, ltb, eqb, length, drop, get_or}
+use Rattle.parser.specs.Digits.{digits, value, if-then}
 use Rattle.parser.specs.Bytes.{past}
 use Rattle.parser.specs.declared.number.Run.{Run}
 use Rattle.parser.specs.declared.number.Run.TheVariants.{Fits, Over}
