@@ -1,8 +1,8 @@
 -- Nibbles: their value fits 64 bits just where at most sixteen are left without the leading zeros. Assumes nothing.
-use mathlib.Core.Path.{◌≡◌, refl, sym, ap, ◌∙◌}
+use mathlib.Core.Path.{◌≡◌, refl, sym, ◌∙◌}
 use mathlib.Core.Bool.{Bool, true, false}
 use mathlib.Core.List.{List, [], ◌∷◌}
-use Prim.Native.Nat.{ℕ, zero, suc, ◌+◌, ◌-◌, ◌*◌, ◌^◌, ◌≤◌, ◌<◌}
+use Prim.Native.Nat.{ℕ, zero, suc, ◌+◌, ◌^◌, ◌≤◌, ◌<◌}
 use native.Mathlib.Omega.{arith}
 use native.Mathlib.Nat.{zero-mul, zero-add, le_trans, pow-le-pow_right, suc-mul, pow-succ', pow-zero}
 use native.Mathlib.Decide.{dec_lt}
@@ -17,7 +17,6 @@ use Rattle.parser.specs.declared.number.Run.{Run}
 use Rattle.parser.specs.declared.number.Run.TheVariants.{Fits, Over}
 use Rattle.parser.proofs.ReaderLaws.{Got, Passed, got, passed, after-fits}
 use Rattle.nibbles.specs.Uint.{trim, hex_value}
-use Rattle.nibbles.specs.declared.uint.Hex.{Hex}
 use Rattle.nibbles.specs.declared.uint.Hex.TheVariants.{Small, Big, Invalid}
 
 abbrev Below : ℕ → List ℕ → Type 0

@@ -1,4 +1,6 @@
 // Punycode: the Rust's `punycode_decode` with the insert into 128 places (port order 3).
+#![tactic(auto)]
+
 ghost use Rattle.std.specs.Prelude.{◌≡◌, ◌≤◌};
 ghost use Rattle.punycode.specs.Answer.{most, decoded, shown, count_of};
 
