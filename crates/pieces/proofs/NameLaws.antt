@@ -1,6 +1,5 @@
 -- Identifiers: characters as UTF-8, and a name in its three forms. Assumes nothing.
 use mathlib.Core.Path.{◌≡◌, refl}
-use mathlib.Core.Logic.{⊎_elim}
 use mathlib.Core.List.{List, [], ◌∷◌, ◌++◌}
 use Prim.Native.Nat.{ℕ, zero, suc, ◌+◌, ◌-◌, ◌/◌, ◌≤◌, ◌<◌}
 use native.Mathlib.Omega.{arith}
@@ -9,8 +8,6 @@ use borrow.Author.Rules.{rules}
 use borrow.Author.Tests.{le-leb, lt-leb}
 use mir.Val.{Fits}
 use mir.Syntax.{w8}
-use types.Run.{OneOf}
-use denote.Enum.Declared.{tag_of}
 use lib.ListN.{length, get_or, take, drop, length-drop, drop_of_length-le}
 use lib.Seq.{take_all, drop-cons, length-take-le}
 use Rattle.nibbles.specs.Utf8.{cont, utf8, encoded, Scalars}
@@ -18,7 +15,6 @@ use Rattle.nibbles.proofs.Utf8Laws.{utf8-one, utf8-two, utf8-three, utf8-four, s
 use Rattle.punycode.specs.Answer.{most, decoded, shown, count_of}
 use Rattle.punycode.specs.declared.Decoded.{Decoded}
 use Rattle.punycode.specs.declared.Decoded.TheVariants.{Chars, Long, Broken}
-use Rattle.punycode.specs.contracts.Decoded.{the_type}
 use Rattle.pieces.specs.Laid.{Wrote}
 use Rattle.pieces.specs.Names.{basic_part, parts, raw_name, shown_name, name_text}
 use Rattle.pieces.specs.declared.put.Put.{Put}
@@ -102,12 +98,12 @@ module _ (ascii code : ℕ) (s : List ℕ) {d e : List ℕ} {r : Put} where
     name-shown k w = rw (lt-leb (length s) code h, ← got, k) w
 
     -- an answer that is not of characters
-    pub name-raw : OneOf (1 ∷ 2 ∷ []) (tag_of the_type o) → Wrote (raw_name (take ascii s) (drop code s)) d e r → Wrote (name_text ascii code s) d e r
+    pub name-raw : ((n : ℕ) → o ≡ Chars n → ⊥) → Wrote (raw_name (take ascii s) (drop code s)) d e r → Wrote (name_text ascii code s) d e r
     unfolding name_text
     name-raw k w = rw (lt-leb (length s) code h, ← got) (go o k)
       where
-        go : (o : Decoded) → OneOf (1 ∷ 2 ∷ []) (tag_of the_type o) → Wrote (shown_name (shown o places) (take ascii s) (drop code s)) d e r
-        go (Chars n) k = absurd (⊎_elim (λ z. omega arith) (λ z. omega arith) k)
+        go : (o : Decoded) → ((n : ℕ) → o ≡ Chars n → ⊥) → Wrote (shown_name (shown o places) (take ascii s) (drop code s)) d e r
+        go (Chars n) k = absurd (k n refl)
         go Long k = unfold shown_name shown in w
         go Broken k = unfold shown_name shown in w
 

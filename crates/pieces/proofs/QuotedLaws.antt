@@ -1,20 +1,16 @@
 -- Quoted text: one character by its cases, and the characters of a text from place to place. Assumes nothing.
 use mathlib.Core.Path.{◌≡◌, refl, sym, ap, ◌∙◌}
-use mathlib.Core.Logic.{⊎_elim}
 use mathlib.Core.Bool.{true}
 use mathlib.Core.List.{List, [], ◌∷◌, ◌++◌, append-nil}
 use Prim.Native.Nat.{ℕ, ◌-◌, ◌≤◌, ◌<◌}
 use native.Mathlib.Omega.{arith}
 use borrow.Author.Rules.{rules}
 use borrow.Author.Tests.{lt-ltb, le-ltb, le-leb, lt-leb, eq-eqb, ne_eqb}
-use types.Run.{OneOf}
-use denote.Enum.Declared.{tag_of}
 use lib.ListN.{length, drop, drop_of_length-le}
 use Rattle.nibbles.specs.Utf8.{Text, text, no_text, onto, decoded, decode}
 use Rattle.nibbles.specs.Chars.{octets, char_at, text_of, is_some, is_text}
 use Rattle.nibbles.specs.declared.text.Char.{Char}
 use Rattle.nibbles.specs.declared.text.Char.TheVariants.{One, End, Bad}
-use Rattle.nibbles.specs.contracts.text.Char.{the_type}
 use Rattle.nibbles.proofs.Utf8.{one-within, text_at, never-bad, still-text}
 use Rattle.pieces.specs.Laid.{Wrote}
 use Rattle.pieces.specs.Quoted.{backslash, unicode, other, unquoted, escaped, escaped_all, quoted, chars_in, chars_of}
@@ -87,11 +83,11 @@ module _ (s : List ℕ) (at : ℕ) (good : is_text (drop at s) ≡ true) {o : Ch
     text-full g v k = going-full g v (escaped_all 34 (chars_of (drop next s))) text-left k
 
   -- an answer that is no character: the end, since a text meets no bad one
-  pub text-stop : {whole d e : List ℕ} {w : ℕ} → Going whole (escaped_all 34 (chars_of (drop at s))) d e w → OneOf (1 ∷ 2 ∷ []) (tag_of the_type o) → Wrote whole d e (Done w)
+  pub text-stop : {whole d e : List ℕ} {w : ℕ} → Going whole (escaped_all 34 (chars_of (drop at s))) d e w → ((c next : ℕ) → o ≡ One c next → ⊥) → Wrote whole d e (Done w)
   text-stop g k = going_end g (go o read k)
     where
-      go : (o : Char) → o ≡ char_at s at → OneOf (1 ∷ 2 ∷ []) (tag_of the_type o) → escaped_all 34 (chars_of (drop at s)) ≡ []
-      go (One c next) q k = absurd (⊎_elim (λ z. omega arith) (λ z. omega arith) k)
+      go : (o : Char) → o ≡ char_at s at → ((c next : ℕ) → o ≡ One c next → ⊥) → escaped_all 34 (chars_of (drop at s)) ≡ []
+      go (One c next) q k = absurd (k c next refl)
       go End q k = unfold chars_of escaped_all in ap (λ (t : Text). escaped_all 34 (chars_in t)) (text_at s at (sym q))
       go Bad q k = absurd (never-bad s at good (sym q))
 

@@ -1,4 +1,6 @@
 // The pieces of a printed text, each laid at the front of a lent buffer (port order 5).
+#![tactic(auto)]
+
 pub mod basic;
 pub mod names;
 pub mod numbers;

@@ -1,0 +1,12 @@
+-- What the loop of `pieces::numbers::put_hex` keeps, and what falls.
+use Prim.Native.Nat.{◌-◌}
+use lib.ListN.{drop}
+use Rattle.pieces.specs.Numeral.{hexadecimal}
+use Rattle.pieces.proofs.WritingLaws.{Going}
+use Rattle.pieces.proofs.numbers.put_hex.Given as goal
+
+abbrev pub invariant-loop-i : goal.invariant-loop-i
+invariant-loop-i l = Going (hexadecimal l.v) (drop l.i (hexadecimal l.v)) l.initial.out l.out l.i
+
+abbrev pub decreases-loop-i : goal.decreases-loop-i
+decreases-loop-i l = l.n - l.i
