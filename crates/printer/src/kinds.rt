@@ -1,6 +1,6 @@
 // The kinds of part that are handed on as a value.
 // What a back reference may lead to. A path in a value has `::` before its generics, a constant in a value no braces.
-#[derive(Drop)]
+#[derive(Clone, Copy)]
 pub enum Kind {
     Path,
     Value,
@@ -10,7 +10,7 @@ pub enum Kind {
 }
 
 // What stands in a list.
-#[derive(Drop)]
+#[derive(Clone, Copy)]
 pub enum Item {
     Ty,
     Arg,
