@@ -1,5 +1,7 @@
 // The desk for programs in C and Rust: `rt staticlib exports` writes the archive, `include/vault.h` declares these functions. Each
 // takes any bytes, any mode and any buffers, empty ones too.
+#![tactic(auto)]
+
 ghost use Rattle.std.specs.Prelude.{◌≡◌, [], ◌∷◌};
 ghost use Rattle.printer.specs.Over.{over};
 ghost use Rattle.demangle.specs.Rows.{number_of, suffix_from, row_of};

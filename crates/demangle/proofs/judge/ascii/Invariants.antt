@@ -1,0 +1,12 @@
+-- What the loop of `demangle::judge::ascii` keeps, and what falls.
+use Prim.Native.Nat.{◌-◌}
+use lib.ListN.{length}
+use mathlib.Core.Logic.{⊎_elim}
+use Rattle.demangle.proofs.PrefixLaws.{Ascii, ascii-laws}
+use Rattle.demangle.proofs.judge.ascii.Given as goal
+
+abbrev pub invariant-loop-i : goal.invariant-loop-i
+invariant-loop-i l = Ascii l.s l.i l.top
+
+abbrev pub decreases-loop-i : goal.decreases-loop-i
+decreases-loop-i l = length l.s - l.i
