@@ -5,7 +5,7 @@ ghost use Rattle.demangle.specs.Rows.{mode_of, answer, shown, row_of};
 use crate::judge::{LEVELS, Verdict, judge};
 
 // Short leaves the crates' numbers and the integers' types out.
-#[derive(Drop)]
+#[derive(Clone, Copy)]
 pub enum Mode {
     Plain,
     Short,
