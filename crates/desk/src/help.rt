@@ -1,15 +1,17 @@
 // What `--help` writes. The script `desk` shows it from here where nothing is built yet: all that stands between quotes, which it does
 // not contain.
 use lines::output::put;
+use std::io::Write;
 
-pub fn text(out: &mut [u8]) -> usize {
-    let a = answers(out, 0);
-    let b = columns(out, a);
-    rules(out, b)
+pub fn text(to: &mut impl Write, out: &mut [u8]) -> usize {
+    let a = answers(to, out, 0);
+    let b = columns(to, out, a);
+    rules(to, out, b)
 }
 
-fn answers(out: &mut [u8], used: usize) -> usize {
+fn answers(to: &mut impl Write, out: &mut [u8], used: usize) -> usize {
     put(
+        to,
         out,
         used,
         b"usage: desk [--short] < SYMBOLS
@@ -31,8 +33,9 @@ ANSWER
     )
 }
 
-fn columns(out: &mut [u8], used: usize) -> usize {
+fn columns(to: &mut impl Write, out: &mut [u8], used: usize) -> usize {
     put(
+        to,
         out,
         used,
         b"NAME    the name; (no name) where none is shown: every refusal, NoRoom;
@@ -46,8 +49,9 @@ SYMBOL  the line as it was read; or (empty line). A line of more than
     )
 }
 
-fn rules(out: &mut [u8], used: usize) -> usize {
+fn rules(to: &mut impl Write, out: &mut [u8], used: usize) -> usize {
     put(
+        to,
         out,
         used,
         b"Only desk's own words, those above, start with a parenthesis. Else

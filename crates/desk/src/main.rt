@@ -1,15 +1,22 @@
 // The fault desk's reader: a symbol a line on standard input, and a line for each: the answer, the name, the suffix, the symbol. No
-// column is ever blank (help.rt says how each is written). What goes wrong is told on standard error. A program of this language has
-// no exit code of its own: the script `desk` makes one of what is told.
+// column is ever blank (help.rt says how each is written). What goes wrong is told on standard error. The exit code is 0 in any case: the
+// script `desk` makes one of what is told.
+#![tactic(auto)]
+
 mod answer;
 mod chars;
 mod column;
+mod failure;
 mod help;
 mod options;
 
 use demangle::print::Mode;
+use failure::{Output, fail};
 use lines::input::Held;
+use lines::output::flush_to;
 use options::Wish;
+use std::io;
+use std::io::{Read, Write};
 
 // A line's bytes that are held, how much of the output buffer is in use, and whether to read on.
 #[derive(Drop)]
@@ -23,7 +30,7 @@ struct Run {
 enum Next {
     More,
     Ended,
-    Failed,
+    Failed(io::Error),
 }
 
 fn start() -> Run {
@@ -35,12 +42,20 @@ fn start() -> Run {
 }
 
 // One byte of input: a line's end has the line answered.
-fn step(line: &mut [u8], room: &mut [u8], out: &mut [u8], mode: Mode, st: Run, b: u8) -> Run {
+fn step(
+    line: &mut [u8],
+    room: &mut [u8],
+    to: &mut impl Write,
+    out: &mut [u8],
+    mode: Mode,
+    st: Run,
+    b: u8,
+) -> Run {
     let held = st.held;
     if b == b'\n' {
         return Run {
             held: lines::input::nothing(),
-            used: answer::line(line, held, mode, room, out, st.used),
+            used: answer::line(line, held, mode, room, to, out, st.used),
             next: Next::More,
         };
     }
@@ -55,15 +70,14 @@ fn feed(
     chunk: &[u8],
     line: &mut [u8],
     room: &mut [u8],
+    to: &mut impl Write,
     out: &mut [u8],
     mode: Mode,
     from: Run,
 ) -> Run {
     let mut st = from;
-    let mut i = 0;
-    while i < chunk.len() {
-        st = step(line, room, out, mode, st, chunk[i]);
-        i += 1;
+    for b in chunk {
+        st = step(line, room, to, out, mode, st, *b);
     }
     st
 }
@@ -86,9 +100,9 @@ fn unless_lost(used: usize) -> Next {
 }
 
 // The answers to what was read go out before more is waited for: whoever types a symbol sees its name.
-fn sent(out: &[u8], st: Run) -> Run {
+fn sent(to: &mut impl Write, out: &[u8], st: Run) -> Run {
     let held = st.held;
-    let used = lines::output::flush(out, st.used);
+    let used = flush_to(to, out, st.used);
     Run {
         held: held,
         used: used,
@@ -97,72 +111,97 @@ fn sent(out: &[u8], st: Run) -> Run {
 }
 
 // One read, and the answers to what came.
-fn turn(line: &mut [u8], room: &mut [u8], out: &mut [u8], mode: Mode, st: Run) -> Run {
-    let mut chunk = io::large_buffer();
-    let got = libc::read(0, &mut chunk);
-    if got < 0 {
-        return stopped(st, Next::Failed);
-    }
-    if got == 0 {
+fn turn(
+    input: &mut impl Read,
+    line: &mut [u8],
+    room: &mut [u8],
+    to: &mut impl Write,
+    out: &mut [u8],
+    mode: Mode,
+    st: Run,
+) -> Run {
+    let mut chunk = [0u8; 65536];
+    let n = match input.read(&mut chunk) {
+        Ok(n) => n,
+        Err(e) => return stopped(st, Next::Failed(e)),
+    };
+    if n == 0 {
         return stopped(st, Next::Ended);
     }
-    let n = io::count(got, &chunk);
-    let fed = feed(&chunk[..n], line, room, out, mode, st);
-    sent(out, fed)
+    let fed = feed(&chunk[..n], line, room, to, out, mode, st);
+    sent(to, out, fed)
 }
 
-fn more(st: Run) -> bool {
-    let next = st.next;
-    if let Next::More = next { true } else { false }
+fn more(st: &Run) -> bool {
+    if let Next::More = st.next {
+        true
+    } else {
+        false
+    }
 }
 
 // The input to its end, or as far as it can be read and answered. A proved loop ends, and nothing says that the input does: no run
 // uses up the turns.
-fn all(line: &mut [u8], room: &mut [u8], out: &mut [u8], mode: Mode) -> Run {
+fn all(
+    input: &mut impl Read,
+    line: &mut [u8],
+    room: &mut [u8],
+    to: &mut impl Write,
+    out: &mut [u8],
+    mode: Mode,
+) -> Run {
     let mut st = start();
-    let mut turns = u64::MAX;
-    while turns > 0 {
-        st = turn(line, room, out, mode, st);
-        if !more(st) {
+    for _ in 0..u64::MAX {
+        st = turn(input, line, room, to, out, mode, st);
+        if !more(&st) {
             break;
         }
-        turns -= 1;
     }
     st
 }
 
-fn names(mode: Mode) {
+fn names(rt: &(impl Input + Print + Eprint + Alloc), mode: Mode) {
     let mut line = [0u8; 131072];
     let mut room = [0u8; 65536];
-    let mut out = io::large_buffer();
-    let last = all(&mut line, &mut room, &mut out, mode);
+    let mut to = Output::new(io::writer(rt));
+    let mut out = [0u8; 65536];
+    let last = all(
+        &mut rt.reader(),
+        &mut line,
+        &mut room,
+        &mut to,
+        &mut out,
+        mode,
+    );
     let next = last.next;
-    if let Next::Failed = next {
+    if let Next::Failed(e) = next {
         // What is held may be half a line, and half a symbol has another name.
-        os::fail(b"desk: cannot read standard input");
+        fail(rt, "desk: cannot read standard input", e);
         return;
     }
     let held = last.held;
-    let used = answer::unended(&line, held, mode, &mut room, &mut out, last.used);
-    written(&out, used);
+    let used = answer::unended(&line, held, mode, &mut room, &mut to, &mut out, last.used);
+    written(rt, &mut to, &out, used);
 }
 
-fn written(out: &[u8], used: usize) {
-    if lines::output::flush(out, used) > 0 {
-        os::fail(b"desk: cannot write standard output");
+fn written<W: Write>(rt: &(impl Eprint + Alloc), to: &mut Output<W>, out: &[u8], used: usize) {
+    flush_to(to, out, used);
+    if let Some(e) = to.why {
+        fail(rt, "desk: cannot write standard output", e);
     }
 }
 
-fn usage() {
-    let mut out = io::large_buffer();
-    let used = help::text(&mut out);
-    written(&out, used);
+fn usage(rt: &(impl Print + Eprint + Alloc)) {
+    let mut to = Output::new(io::writer(rt));
+    let mut out = [0u8; 65536];
+    let used = help::text(&mut to, &mut out);
+    written(rt, &mut to, &out, used);
 }
 
-fn main() {
-    match options::asked() {
-        Wish::Names(mode) => names(mode),
-        Wish::Help => usage(),
-        Wish::Unknown(i) => options::unknown(i),
+fn main(rt: HostRuntime) {
+    match options::asked(&rt) {
+        Wish::Names(mode) => names(&rt, mode),
+        Wish::Help => usage(&rt),
+        Wish::Unknown(i) => options::unknown(&rt, &mut rt.stderr(), i),
     }
 }

@@ -1,7 +1,11 @@
 // The program's arguments.
+ghost use Rattle.std.specs.Prelude.{◌≤◌, length, IfSome};
+
 use demangle::print::Mode;
-use libc::STDERR_FILENO;
 use lines::output::put;
+use std::env::FillError;
+use std::io::Write;
+use std::rt::Env;
 
 // What the arguments ask for: names, the usage, or nothing that is known, and then which one.
 #[derive(Drop)]
@@ -16,26 +20,38 @@ enum Word {
     Short,
     Help,
     Other,
+    End,
 }
 
 fn same(a: &[u8], b: &[u8]) -> bool {
     if a.len() != b.len() {
         return false;
     }
-    let mut i = 0;
-    while i < a.len() {
-        if a[i] != b[i] {
+    for (i, x) in a.iter().enumerate() {
+        if *x != b[i] {
             return false;
         }
-        i += 1;
     }
     true
 }
 
-// An argument by its number. One that is longer than any option comes as an empty one.
-fn word_at(i: usize) -> Word {
-    let mut text = io::buffer();
-    let n = os::arg(i, &mut text);
+// The length of an argument, by its number, whose bytes are put into a buffer; none behind the last. One that is longer than the buffer
+// comes as an empty one.
+fn argument(rt: &impl Env, i: usize, text: &mut [u8]) -> Option<usize>
+    ensures { IfSome result (λ n. n ≤ length text.new) }
+{
+    match rt.arg(i, text) {
+        Ok(n) => Some(n),
+        Err(FillError::TooLong) => Some(0),
+        Err(FillError::NotPresent) => None,
+    }
+}
+
+fn word_at(rt: &impl Env, i: usize) -> Word {
+    let mut text = [0u8; 4096];
+    let Some(n) = argument(rt, i, &mut text) else {
+        return Word::End;
+    };
     if same(&text[..n], b"--short") {
         return Word::Short;
     }
@@ -53,12 +69,10 @@ fn mode_of(short: bool) -> Mode {
 }
 
 // The arguments in turn, to the first that decides.
-pub fn asked() -> Wish {
+pub fn asked(rt: &impl Env) -> Wish {
     let mut short = false;
-    let n = os::arg_count();
-    let mut i = 1;
-    while i < n {
-        match word_at(i) {
+    for i in 1..usize::MAX {
+        match word_at(rt, i) {
             Word::Short => {
                 short = true;
             }
@@ -68,25 +82,27 @@ pub fn asked() -> Wish {
             Word::Other => {
                 return Wish::Unknown(i);
             }
+            Word::End => {
+                break;
+            }
         }
-        i += 1;
     }
     Wish::Names(mode_of(short))
 }
 
-// Names an argument that is unknown, on standard error. Four bytes for each of its own, and so the buffer never fills, and nothing of it
-// goes to standard output.
-pub fn unknown(i: usize) {
-    let mut text = io::buffer();
-    let mut out = io::large_buffer();
-    let n = os::arg(i, &mut text);
-    let a = put(&mut out, 0, b"desk: unknown option: ");
+// Names an argument that is unknown, where errors are told.
+pub fn unknown(rt: &impl Env, to: &mut impl Write, i: usize) {
+    let mut text = [0u8; 4096];
+    let mut out = [0u8; 65536];
+    let n = argument(rt, i, &mut text).unwrap_or(0);
+    let a = put(to, &mut out, 0, b"desk: unknown option: ");
     let b = crate::column::text(
+        to,
         &mut out,
         a,
         &text[..n],
         b"(an empty word, or a very long one)",
     );
-    let c = put(&mut out, b, b"\ndesk: --help shows the use\n");
-    lines::output::flush_to(STDERR_FILENO, &out, c);
+    let c = put(to, &mut out, b, b"\ndesk: --help shows the use\n");
+    lines::output::flush_to(to, &out, c);
 }

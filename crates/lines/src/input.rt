@@ -46,14 +46,12 @@ pub fn front(s: &[u8], n: usize) -> &[u8] {
 pub fn field_end(line: &[u8]) -> usize
     ensures { result ≤ length line.now }
 {
-    let mut i = 0;
-    while i < line.len() {
-        if line[i] == b' ' {
+    for (i, b) in line.iter().enumerate() {
+        if *b == b' ' {
             return i;
         }
-        i += 1;
     }
-    i
+    line.len()
 }
 
 // What stands behind the first field and its blank.
@@ -107,8 +105,7 @@ pub fn from_hex(text: &[u8], bytes: &mut [u8]) -> Bytes {
     if n > bytes.len() {
         return Bytes::Bad;
     }
-    let mut i = 0;
-    while i < n {
+    for i in 0..n {
         let hi = digit(text[2 * i]);
         let lo = digit(text[2 * i + 1]);
         if hi >= 16 {
@@ -118,19 +115,16 @@ pub fn from_hex(text: &[u8], bytes: &mut [u8]) -> Bytes {
             return Bytes::Bad;
         }
         bytes[i] = (hi * 16 + lo) as u8;
-        i += 1;
     }
     Bytes::Count(n)
 }
 
 // Whether every byte is ASCII.
 pub fn ascii(s: &[u8]) -> bool {
-    let mut i = 0;
-    while i < s.len() {
-        if s[i] >= 128 {
+    for b in s {
+        if *b >= 128 {
             return false;
         }
-        i += 1;
     }
     true
 }

@@ -1,9 +1,12 @@
 // Reads lines `PLACE HEX` and writes for each what every reader answers at that place of those bytes: fifteen fields, `!` for
 // Invalid. The Rust beside it (compare/) writes the same lines from the original's own readers.
+#![tactic(auto)]
+
 mod answer;
 mod field;
 
 use lines::input::Held;
+use std::io::{Read, Write};
 
 // A line's bytes that are held, and how much of the output buffer is in use.
 #[derive(Drop)]
@@ -13,12 +16,19 @@ struct Run {
 }
 
 // One byte of input: a line's end has the line answered.
-fn step(line: &mut [u8], text: &mut [u8], out: &mut [u8], st: Run, b: u8) -> Run {
+fn step(
+    line: &mut [u8],
+    text: &mut [u8],
+    to: &mut impl Write,
+    out: &mut [u8],
+    st: Run,
+    b: u8,
+) -> Run {
     let held = st.held;
     if b == b'\n' {
         return Run {
             held: lines::input::nothing(),
-            used: answer::line(line, held, text, out, st.used),
+            used: answer::line(line, held, text, to, out, st.used),
         };
     }
     Run {
@@ -27,42 +37,53 @@ fn step(line: &mut [u8], text: &mut [u8], out: &mut [u8], st: Run, b: u8) -> Run
     }
 }
 
-fn feed(chunk: &[u8], line: &mut [u8], text: &mut [u8], out: &mut [u8], from: Run) -> Run {
+fn feed(
+    chunk: &[u8],
+    line: &mut [u8],
+    text: &mut [u8],
+    to: &mut impl Write,
+    out: &mut [u8],
+    from: Run,
+) -> Run {
     let mut st = from;
-    let mut i = 0;
-    while i < chunk.len() {
-        st = step(line, text, out, st, chunk[i]);
-        i += 1;
+    for b in chunk {
+        st = step(line, text, to, out, st, *b);
     }
     st
 }
 
 // The input to its end. A proved loop ends, and nothing says that the input does: no run uses up the turns.
-fn all(line: &mut [u8], text: &mut [u8], out: &mut [u8]) -> Run {
+fn all(
+    input: &mut impl Read,
+    line: &mut [u8],
+    text: &mut [u8],
+    to: &mut impl Write,
+    out: &mut [u8],
+) -> Run {
     let mut st = Run {
         held: lines::input::nothing(),
         used: 0,
     };
-    let mut chunk = io::large_buffer();
-    let mut turns = u64::MAX;
-    while turns > 0 {
-        let got = libc::read(0, &mut chunk);
-        if got <= 0 {
+    let mut chunk = [0u8; 65536];
+    for _ in 0..u64::MAX {
+        let Ok(n) = input.read(&mut chunk) else {
+            break;
+        };
+        if n == 0 {
             break;
         }
-        let n = io::count(got, &chunk);
-        st = feed(&chunk[..n], line, text, out, st);
-        turns -= 1;
+        st = feed(&chunk[..n], line, text, to, out, st);
     }
     st
 }
 
-fn main() {
+fn main(rt: HostRuntime) {
     let mut line = [0u8; 16384];
     let mut text = [0u8; 8192];
-    let mut out = io::large_buffer();
-    let last = all(&mut line, &mut text, &mut out);
+    let mut to = rt.stdout();
+    let mut out = [0u8; 65536];
+    let last = all(&mut rt.stdin(), &mut line, &mut text, &mut to, &mut out);
     let held = last.held;
-    let used = answer::unended(&line, held, &mut text, &mut out, last.used);
-    lines::output::flush(&out, used);
+    let used = answer::unended(&line, held, &mut text, &mut to, &mut out, last.used);
+    lines::output::flush(&rt, &out, used);
 }

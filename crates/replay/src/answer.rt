@@ -4,6 +4,7 @@ use demangle::print::{Mode, print};
 use lines::input::{Bytes, Field, Held};
 use lines::output::{put, put_byte};
 use parser::bytes::peek;
+use std::io::Write;
 
 // A last line with no line end is a line, unless nothing stands there.
 pub fn unended(
@@ -11,13 +12,14 @@ pub fn unended(
     h: Held,
     text: &mut [u8],
     room: &mut [u8],
+    to: &mut impl Write,
     out: &mut [u8],
     used: usize,
 ) -> usize {
     if h.count == 0 {
         return used;
     }
-    self::line(line, h, text, room, out, used)
+    self::line(line, h, text, room, to, out, used)
 }
 
 pub fn line(
@@ -25,21 +27,36 @@ pub fn line(
     h: Held,
     text: &mut [u8],
     room: &mut [u8],
+    to: &mut impl Write,
     out: &mut [u8],
     used: usize,
 ) -> usize {
     if h.long {
-        return put(out, used, b"? long\n");
+        return put(to, out, used, b"? long\n");
     }
-    let k = question(lines::input::front(line, h.count), text, room, out, used);
-    put_byte(out, k, b'\n')
+    let k = question(
+        lines::input::front(line, h.count),
+        text,
+        room,
+        to,
+        out,
+        used,
+    );
+    put_byte(to, out, k, b'\n')
 }
 
-fn question(line: &[u8], text: &mut [u8], room: &mut [u8], out: &mut [u8], used: usize) -> usize {
+fn question(
+    line: &[u8],
+    text: &mut [u8],
+    room: &mut [u8],
+    to: &mut impl Write,
+    out: &mut [u8],
+    used: usize,
+) -> usize {
     let Asked::In(mode) = mode_of(line) else {
-        return put(out, used, b"? mode");
+        return put(to, out, used, b"? mode");
     };
-    symbol(lines::input::behind(line), mode, text, room, out, used)
+    symbol(lines::input::behind(line), mode, text, room, to, out, used)
 }
 
 // Behind the mode: the room, and the symbol in hex.
@@ -48,24 +65,25 @@ fn symbol(
     mode: Mode,
     text: &mut [u8],
     room: &mut [u8],
+    to: &mut impl Write,
     out: &mut [u8],
     used: usize,
 ) -> usize {
     let Field::Number(n) = lines::input::number_field(line, 65536) else {
-        return put(out, used, b"? room");
+        return put(to, out, used, b"? room");
     };
     let Bytes::Count(k) = lines::input::from_hex(lines::input::behind(line), text) else {
-        return put(out, used, b"? hex");
+        return put(to, out, used, b"? hex");
     };
-    let to = n as usize;
-    if to > room.len() {
+    let width = n as usize;
+    if width > room.len() {
         return used;
     }
     if k > text.len() {
         return used;
     }
     let from = 0;
-    ask(&text[from..k], mode, &mut room[from..to], out, used)
+    ask(&text[from..k], mode, &mut room[from..width], to, out, used)
 }
 
 // The mode that a line asks for.
@@ -90,9 +108,16 @@ fn mode_of(line: &[u8]) -> Asked {
     Asked::None
 }
 
-fn ask(symbol: &[u8], mode: Mode, room: &mut [u8], out: &mut [u8], used: usize) -> usize {
+fn ask(
+    symbol: &[u8],
+    mode: Mode,
+    room: &mut [u8],
+    to: &mut impl Write,
+    out: &mut [u8],
+    used: usize,
+) -> usize {
     field::fill(room);
-    let k = field::checked(out, used, symbol);
+    let k = field::checked(to, out, used, symbol);
     let p = print(symbol, mode, room);
-    field::printed(out, k, p, room)
+    field::printed(to, out, k, p, room)
 }

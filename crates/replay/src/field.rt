@@ -2,18 +2,19 @@
 use demangle::check::{Checked, check};
 use demangle::print::Printed;
 use lines::output::{put_byte, put_decimal, put_hex_byte};
+use std::io::Write;
 
 // What the buffer holds before a call: bytes that the call leaves must still be these.
 const BEFORE: u8 = 0xa5;
 
-fn number(out: &mut [u8], used: usize, n: u64) -> usize {
-    let k = put_decimal(out, used, n);
-    put_byte(out, k, b' ')
+fn number(to: &mut impl Write, out: &mut [u8], used: usize, n: u64) -> usize {
+    let k = put_decimal(to, out, used, n);
+    put_byte(to, out, k, b' ')
 }
 
-fn pair(out: &mut [u8], used: usize, a: u64, b: usize) -> usize {
-    let k = number(out, used, a);
-    number(out, k, b as u64)
+fn pair(to: &mut impl Write, out: &mut [u8], used: usize, a: u64, b: usize) -> usize {
+    let k = number(to, out, used, a);
+    number(to, out, k, b as u64)
 }
 
 // The place at which the suffix starts: it stands at the symbol's end.
@@ -34,84 +35,98 @@ fn number_of(c: Checked) -> u64 {
     }
 }
 
-pub fn checked(out: &mut [u8], used: usize, symbol: &[u8]) -> usize {
-    pair(out, used, number_of(check(symbol)), suffix_start(symbol))
+pub fn checked(to: &mut impl Write, out: &mut [u8], used: usize, symbol: &[u8]) -> usize {
+    pair(
+        to,
+        out,
+        used,
+        number_of(check(symbol)),
+        suffix_start(symbol),
+    )
 }
 
-pub fn printed(out: &mut [u8], used: usize, p: Printed, room: &[u8]) -> usize {
+pub fn printed(to: &mut impl Write, out: &mut [u8], used: usize, p: Printed, room: &[u8]) -> usize {
     match p {
-        Printed::Done(n, whole) => text(out, used, n, whole, room),
-        Printed::Invalid => refused(out, used, 1, room),
-        Printed::RecursedTooDeep => refused(out, used, 2, room),
-        Printed::TooLong => refused(out, used, 3, room),
-        Printed::NoRoom => full(out, used, room),
+        Printed::Done(n, whole) => text(to, out, used, n, whole, room),
+        Printed::Invalid => refused(to, out, used, 1, room),
+        Printed::RecursedTooDeep => refused(to, out, used, 2, room),
+        Printed::TooLong => refused(to, out, used, 3, room),
+        Printed::NoRoom => full(to, out, used, room),
     }
 }
 
-fn text(out: &mut [u8], used: usize, n: usize, whole: bool, room: &[u8]) -> usize {
-    let k = pair(out, used, 0, n);
+fn text(
+    to: &mut impl Write,
+    out: &mut [u8],
+    used: usize,
+    n: usize,
+    whole: bool,
+    room: &[u8],
+) -> usize {
+    let k = pair(to, out, used, 0, n);
     if whole {
-        return state(out, k, b'w', room, n);
+        return state(to, out, k, b'w', room, n);
     }
-    state(out, k, b'd', room, n)
+    state(to, out, k, b'd', room, n)
 }
 
-fn refused(out: &mut [u8], used: usize, no: u64, room: &[u8]) -> usize {
-    let k = pair(out, used, no, 0);
-    state(out, k, b'-', room, 0)
+fn refused(to: &mut impl Write, out: &mut [u8], used: usize, no: u64, room: &[u8]) -> usize {
+    let k = pair(to, out, used, no, 0);
+    state(to, out, k, b'-', room, 0)
 }
 
-fn full(out: &mut [u8], used: usize, room: &[u8]) -> usize {
-    let k = pair(out, used, 4, room.len());
-    state(out, k, b'-', room, room.len())
+fn full(to: &mut impl Write, out: &mut [u8], used: usize, room: &[u8]) -> usize {
+    let k = pair(to, out, used, 4, room.len());
+    state(to, out, k, b'-', room, room.len())
 }
 
 // Whole, damaged or neither; whether the bytes behind the text were kept; the text.
-fn state(out: &mut [u8], used: usize, letter: u8, room: &[u8], n: usize) -> usize {
-    let a = put_byte(out, used, letter);
-    let b = put_byte(out, a, b' ');
-    let c = put_byte(out, b, kept(room, n));
-    let d = put_byte(out, c, b' ');
-    shown(out, d, room, n)
+fn state(
+    to: &mut impl Write,
+    out: &mut [u8],
+    used: usize,
+    letter: u8,
+    room: &[u8],
+    n: usize,
+) -> usize {
+    let a = put_byte(to, out, used, letter);
+    let b = put_byte(to, out, a, b' ');
+    let c = put_byte(to, out, b, kept(room, n));
+    let d = put_byte(to, out, c, b' ');
+    shown(to, out, d, room, n)
 }
 
-fn shown(out: &mut [u8], used: usize, room: &[u8], n: usize) -> usize {
+fn shown(to: &mut impl Write, out: &mut [u8], used: usize, room: &[u8], n: usize) -> usize {
     if n == 0 {
-        return put_byte(out, used, b'-');
+        return put_byte(to, out, used, b'-');
     }
     if n > room.len() {
-        return put_byte(out, used, b'?');
+        return put_byte(to, out, used, b'?');
     }
     let from = 0;
-    hex_bytes(out, used, &room[from..n])
+    hex_bytes(to, out, used, &room[from..n])
 }
 
-fn hex_bytes(out: &mut [u8], used: usize, bytes: &[u8]) -> usize {
+fn hex_bytes(to: &mut impl Write, out: &mut [u8], used: usize, bytes: &[u8]) -> usize {
     let mut k = used;
-    let mut i = 0;
-    while i < bytes.len() {
-        k = put_hex_byte(out, k, bytes[i]);
-        i += 1;
+    for b in bytes {
+        k = put_hex_byte(to, out, k, *b);
     }
     k
 }
 
 pub fn fill(room: &mut [u8]) {
-    let mut i = 0;
-    while i < room.len() {
-        room[i] = BEFORE;
-        i += 1;
+    for b in room.iter_mut() {
+        *b = BEFORE;
     }
 }
 
 // Whether the bytes from a place on are as before the call.
 fn kept(room: &[u8], from: usize) -> u8 {
-    let mut i = from;
-    while i < room.len() {
+    for i in from..room.len() {
         if room[i] != BEFORE {
             return b'x';
         }
-        i += 1;
     }
     b'k'
 }
