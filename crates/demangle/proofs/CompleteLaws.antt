@@ -8,6 +8,7 @@ use native.Mathlib.Omega.{arith}
 use borrow.Author.Tests.{eqb-true, eqb-false, le-leb}
 use lib.Dec.{T, eqb, leb}
 use lib.ListN.{length}
+use Rattle.parser.specs.Digits.{if-then}
 use Rattle.parser.specs.Bytes.{past}
 use Rattle.parser.specs.Number.{integer62, optional62, back_at, hex_at}
 use Rattle.parser.specs.Names.{ident_at}
@@ -17,6 +18,7 @@ use Rattle.parser.specs.declared.number.Nibbles.TheVariants.{To}
 use Rattle.parser.specs.declared.names.Name.TheVariants.{Parts}
 use Rattle.pieces.specs.Basic as basics
 use Rattle.pieces.specs.Basic.{is_basic}
+use Rattle.pieces.specs.Piece.{word}
 use Rattle.pieces.specs.Words as W
 use Rattle.printer.specs.Says.{U, invalid, too_deep, Res, ok, Says, refused, onto, next, ◌>>=◌, ◌then◌, give, emit, on_error, reader, need, choose, mute}
 use Rattle.printer.specs.Says.{pick}
@@ -65,7 +67,7 @@ module _ (f : Follow) (b v j : ℕ) (fits : v < 2 ^ 64) (bound : Bound f b v) wh
 
   end-life-good : Good ((g.end_life (follows f) (g.held b) v).run j) tt j
   unfolding g.end_life emit ◌then◌ ◌>>=◌ next
-  end-life-good = choose-good (eqb v 0) _ _ (λ _. good tt j _) (λ _. say-good _ (life-good f b v j fits bound))
+  end-life-good = choose-good (eqb v 0) _ _ (λ _. good tt j _) (λ _. say-good (word W.plus ∷ []) (life-good f b v j fits bound))
 
 module _ (s : List ℕ) where
   lifetime-good : (f : Follow) (b i : ℕ) {v j : ℕ} → integer62 s i ≡ Value v j → Bound f b v → Good ((g.lifetime s (follows f) (g.held b)).run i) tt j
@@ -80,7 +82,7 @@ module _ (s : List ℕ) where
   reference-good : (m : Bool) (f : Follow) (b i : ℕ) {v j : ℕ} → life_at s i ≡ Value v j → Bound f b v
       → Good ((g.reference s m (follows f) (g.held b)).run i) true j
   unfolding g.reference g.ref_rest need reader emit give ◌then◌ ◌>>=◌ next onto
-  reference-good m f b i {v} {j} e u = say-good _ (taken-good _ _ _ (ap g.got_num e) (join _ (ref-life-good f b v j (life-fits s i e) u) (good true j _)))
+  reference-good m f b i {v} {j} e u = say-good (word W.ref ∷ []) (taken-good _ _ _ (ap g.got_num e) (join _ (ref-life-good f b v j (life-fits s i e) u) (good true j _)))
 
   head-good : (i : ℕ) {u : Bool} {x y z j : ℕ} → head_at s i ≡ Before u x y z j → Good ((g.sig_head s).run i) true j
   unfolding g.sig_head need reader emit give ◌then◌ ◌>>=◌ next onto
@@ -95,8 +97,8 @@ module _ (s : List ℕ) where
   int-good tag i {e} {j} q = go (eqb (s ! i) ltr.'n') refl
     where
       go : (t : Bool) → eqb (s ! i) ltr.'n' ≡ t → Good ((g.int s tag).run i) tt j
-      go true h = let h' = eqb-true _ _ h in eat-good s i _ _ h' (say-good _ (uint-good tag (i + 1) (rw (found s _ i h') at q)))
-      go false h = let h' = eqb-false _ _ h in eat-not-good s i _ _ h' (uint-good tag i (rw (missing s _ i h') at q))
+      go true h = let h' = eqb-true _ _ h in eat-good s i (g.say W.minus then g.uint s tag) (g.uint s tag) h' (say-good (word W.minus ∷ []) (uint-good tag (i + 1) (rw (found s _ i h') at q)))
+      go false h = let h' = eqb-false _ _ h in eat-not-good s i (g.say W.minus then g.uint s tag) (g.uint s tag) h' (uint-good tag i (rw (missing s _ i h') at q))
 
   literal-good : (i : ℕ) {e j : ℕ} → literal_at s i ≡ Spelt e j → Good ((g.literal s).run i) tt j
   unfolding g.literal need reader emit
@@ -130,11 +132,11 @@ module _ (s : List ℕ) where
 
     tuple-good : (k : Item) (i : ℕ) {j : ℕ} → Lists (g.element s p k f b) i j → j ≤ length s → Good ((g.tuple s p k f b).run i) tt j
     unfolding g.tuple emit ◌then◌ ◌>>=◌ next onto
-    tuple-good k i {j} h l = say-good _ (join _ (items-good k i h l).1 (good tt j _))
+    tuple-good k i {j} h l = say-good (word W.paren ∷ []) (join _ (items-good k i h l).1 (good tt j _))
 
     between-good : (from : ℕ) (k : Item) (to i : ℕ) {j : ℕ} → Lists (g.element s p k f b) i j → j ≤ length s → Good ((g.between s p from k to f b).run i) tt j
     unfolding g.between emit ◌then◌ ◌>>=◌ next
-    between-good from k to i {j} h l = say-good _ (join _ (items-good k i h l).1 (good tt j _))
+    between-good from k to i {j} h l = say-good (word from ∷ []) (join _ (items-good k i h l).1 (good tt j _))
 
     fields-good : (from : ℕ) (k : Item) (to : ℕ) (value : Bool) (i : ℕ) {j : ℕ} → Lists (g.element s p k f b) i j → j ≤ length s
         → Good ((g.fields s p from k to value f b).run i) tt j
@@ -143,11 +145,11 @@ module _ (s : List ℕ) where
 
     self-good : (i : ℕ) {j : ℕ} → Good ((g.type s p f b).run i) tt j → Good ((g.qself s p false f b).run i) tt j
     unfolding g.qself g.trt choose emit ◌then◌ ◌>>=◌ next onto
-    self-good i {j} h = say-good _ (join _ h (good tt j _))
+    self-good i {j} h = say-good (word W.less ∷ []) (join _ h (good tt j _))
 
     as-good : (i : ℕ) {j k : ℕ} → Good ((g.type s p f b).run i) tt j → Good ((p.path false f b).run j) tt k → Good ((g.qself s p true f b).run i) tt k
     unfolding g.qself g.trt choose emit ◌then◌ ◌>>=◌ next
-    as-good i {j} {k} h q = say-good _ (join _ h (join _ (say-good _ q) (good tt k _)))
+    as-good i {j} {k} h q = say-good (word W.less ∷ []) (join _ h (join (λ _. g.say W.more) (say-good (word W.as-trait ∷ []) q) (good tt k (word W.more ∷ []))))
 
     braced-good : (tag : ℕ) (value : Bool) (i : ℕ) {j : ℕ} → Good ((g.body_by s p tag f b).run i) tt j → Good ((g.braced_by s p tag value f b).run i) tt j
     unfolding g.braced_by emit ◌then◌ ◌>>=◌ next
@@ -155,7 +157,7 @@ module _ (s : List ℕ) where
 
     refer-to-good : (m : Bool) (i : ℕ) {j : ℕ} → Good ((p.con true f b).run i) tt j → Good ((g.refer_to s p m f b).run i) tt j
     unfolding g.refer_to emit ◌then◌ ◌>>=◌ next
-    refer-to-good m i h = say-good _ (say-good _ h)
+    refer-to-good m i h = say-good (word W.ref ∷ []) (say-good _ h)
 
     -- bindings: a turn for each, and one to end
     abbrev turn : ℕ → Bool → ℕ → Res U
@@ -171,9 +173,9 @@ module _ (s : List ℕ) where
         → (c : ℕ) (o : Bool) → l < i + c → Good ((g.bindings s p c o f b).run i) tt l
     unfolding g.bindings g.binding g.bound_name need reader emit give choose ◌then◌ ◌>>=◌ next
     bound-to-good i e q h lt le r zero o w = absurd (omega arith)
-    bound-to-good i {k = k} e q h lt le r (suc c) o w = past-good s _ i (turn c o) _ e
+    bound-to-good i {x = x} {y = y} {z = z} {j = j} {k = k} e q h lt le r (suc c) o w = past-good s _ i (turn c o) _ e
         (join (λ y. choose y (g.bindings s p c true f b) (emit []))
-        (say-good _ (taken-good _ _ _ (ap g.got_name q) (say-good _ (join _ h (good true k _))))) (r c true (omega arith)))
+        (say-good (word (if-then o W.comma-blank W.less) ∷ []) (taken-good _ _ _ (ap g.got_name q) (say-good (g.ident s x y z j ∷ word W.equals ∷ []) (join _ h (good true k _))))) (r c true (omega arith)))
 
   -- ---- the model at a tag, with a level more
   path-tag : (n : ℕ) (value f : Bool) (b i : ℕ) {j k : ℕ} → s ! i ≡ suc k
@@ -218,7 +220,7 @@ module _ (s : List ℕ) where
   unfolding g.alternatives ltr.any_of emit ◌then◌ ◌>>=◌ next
   bars-more f n b i o h lt lt' r zero q = absurd (omega arith)
   bars-more f n b i o h lt lt' r (suc k) q =
-      past-not-good s _ i (λ j. ok tt j false []) _ (λ e. rw e at o) (say-good _ (join _ h (r k (omega arith))))
+      past-not-good s _ i (λ j. ok tt j false []) _ (λ e. rw e at o) (say-good (word W.or ∷ []) (join _ h (r k (omega arith))))
 
   many-end : (x : G.Item) (f : Bool) (n b i : ℕ) → s ! i ≡ ltr.'E' → RunsMany x f n b i (i + 1)
   many-end types f n b i e = end-good _ i e
@@ -333,13 +335,13 @@ module _ (s : List ℕ) where
   result-good p f b i {j} h k = go (eqb (s ! i) ltr.'u') refl
     where
       go : (t : Bool) → eqb (s ! i) ltr.'u' ≡ t → Good ((g.result s p f b).run i) tt j
-      go true e = rw (k (eqb-true _ _ e)) (eat-good s i _ _ (eqb-true _ _ e) (good tt (i + 1) _))
-      go false e = eat-not-good s i _ _ (eqb-false _ _ e) (say-good _ h)
+      go true e = rw (k (eqb-true _ _ e)) (eat-good s i (emit []) (g.arrow s p f b) (eqb-true _ _ e) (good tt (i + 1) []))
+      go false e = eat-not-good s i (emit []) (g.arrow s p f b) (eqb-false _ _ e) (say-good (word W.arrow ∷ []) h)
 
   signature-good : (p : g.Level) (f : Bool) (b i : ℕ) {u : Bool} {x y z j k l : ℕ} → head_at s i ≡ Before u x y z j → Lists (g.element s p AType f b) j k
       → k ≤ length s → Good ((g.result s p f b).run k) tt l → Good ((g.signature s p f b).run i) tt l
   unfolding g.signature g.parameters choose emit ◌then◌ ◌>>=◌ next
-  signature-good p f b i e h le r = join _ (head-good i e) (join _ (items-good p f b AType _ h le).1 (say-good _ r))
+  signature-good p f b i e h le r = join _ (head-good i e) (join _ (items-good p f b AType _ h le).1 (say-good (word W.paren-end ∷ []) r))
 
   function-good : (p : g.Level) (f : Bool) (b i : ℕ) {m j k : ℕ} → optional62 ltr.'G' s i ≡ Value m j → Good ((g.signature s p f (g.held (b + m))).run j) tt k
       → Good ((g.function s p f (g.held b)).run i) tt k
@@ -350,7 +352,7 @@ module _ (s : List ℕ) where
       → k ≤ length s → Good ((g.bound s f (g.held b)).run k) tt l → Good ((g.object s p f (g.held b)).run i) tt l
   unfolding g.object g.traits need reader emit ◌then◌ ◌>>=◌ next
   object-good p f b i {m} {k = k} e h le r =
-      say-good _ (join _ (taken-good _ _ _ (ap g.got_num e) (rw (held-sum b m) (say-good _ (join _ (items-good p f _ Trait _ h le).1 (good tt k _))))) r)
+      say-good (word W.dyn ∷ []) (join _ (taken-good _ _ _ (ap g.got_num e) (rw (held-sum b m) (say-good _ (join _ (items-good p f _ Trait _ h le).1 (good tt k _))))) r)
 
   or-good : (f : Bool) (n b i : ℕ) {j k : ℕ} → Runs pattern f n b i j → RunsMany patterns f n b j k → k ≤ length s
       → Good (((g.level s (suc n)).ors f (g.held b)).run i) tt k
@@ -403,9 +405,9 @@ module _ (s : List ℕ) where
       (join _ (hush-good (complete r false)) (as-good _ _ _ _ (complete q) (complete t false))))
   complete (G.trait-definition e r q) = λ value. path-tag _ value _ _ _ e (as-good _ _ _ _ (complete r) (complete q false))
   complete (G.nested-path {l = l} e c r q) = λ value. path-tag _ value _ _ _ e (taken-good _ _ _ (ap g.got_letter c)
-      (join _ (complete r value) (say-good _ (taken-good _ _ _ (ap g.got_named q) (good tt l _)))))
+      (join _ (complete r value) (say-good [] (taken-good _ _ _ (ap g.got_named q) (good tt l _)))))
   complete (G.generic-args {k = k} e r q) = λ value. path-tag _ value _ _ _ e (join _ (complete r value)
-      (say-good _ (join _ (items-good _ _ _ Arg _ (complete q) (list-ends s q)).1 (good tt k _))))
+      (say-good (word (if-then value W.value-less W.less) ∷ []) (join _ (items-good _ _ _ Arg _ (complete q) (list-ends s q)).1 (good tt k _))))
   complete (G.list-end {x} {i = i} e) = many-end x _ _ _ i e
   complete (G.list-more {x} {i = i} r q) = many_more x _ _ _ i (first s r) (grows s r) (omega (arith, grows s q)) (list-ends s q) (complete r) (complete q)
   complete (G.lifetime-arg {f} {b = b} {i = i} e q u) = arg-tag _ _ _ _ e (lifetime-good f b (i + 1) q u)
@@ -413,13 +415,13 @@ module _ (s : List ℕ) where
   complete (G.const-arg e r) = arg-tag _ _ _ _ e (complete r false)
   complete (G.plain_type {i = i} r) = eat-not-good s i _ _ (λ e. rw e at (first s r)) (complete r)
   complete (G.basic-type {f} {n} {b} {i} t) = basic-good (follows f) n b i t
-  complete (G.array-type {k = k} e r q) = type-tag _ _ _ _ e refl (say-good _ (join _ (complete r) (join _ (say-good _ (complete q true)) (good tt k _))))
-  complete (G.slice-type {j = j} e r) = type-tag _ _ _ _ e refl (say-good _ (join _ (complete r) (good tt j _)))
+  complete (G.array-type {k = k} e r q) = type-tag _ _ _ _ e refl (say-good (word W.bracket ∷ []) (join _ (complete r) (join (λ _. g.say W.bracket-end) (say-good (word W.semicolon ∷ []) (complete q true)) (good tt k (word W.bracket-end ∷ [])))))
+  complete (G.slice-type {j = j} e r) = type-tag _ _ _ _ e refl (say-good (word W.bracket ∷ []) (join _ (complete r) (good tt j _)))
   complete (G.tuple_type e r) = type-tag _ _ _ _ e refl (tuple-good _ _ _ AType _ (complete r) (list-ends s r))
   complete (G.ref-type {f} {b = b} {i = i} e l u r) = type-tag _ _ _ _ e refl (join _ (reference-good false f b (i + 1) l u) (complete r))
   complete (G.mut-ref-type {f} {b = b} {i = i} e l u r) = type-tag _ _ _ _ e refl (join _ (reference-good true f b (i + 1) l u) (complete r))
-  complete (G.const-ptr-type e r) = type-tag _ _ _ _ e refl (say-good _ (complete r))
-  complete (G.mut-ptr-type e r) = type-tag _ _ _ _ e refl (say-good _ (complete r))
+  complete (G.const-ptr-type e r) = type-tag _ _ _ _ e refl (say-good (word W.ptr-const ∷ []) (complete r))
+  complete (G.mut-ptr-type e r) = type-tag _ _ _ _ e refl (say-good (word W.ptr-mut ∷ []) (complete r))
   complete (G.fn-type {f} {n} {b} {i} {l = l} {g = g} e d h r q) =
       type-tag _ _ _ _ e refl (function-good _ _ b (i + 1) d (signature-good _ _ _ _ h (complete r) (list-ends s r)
       (result-good _ _ _ l (complete q) (unit-good (follows f) n (b + g) l (complete q)))))
@@ -428,7 +430,7 @@ module _ (s : List ℕ) where
   complete (G.path-type {i = i} o r) = path-type-good _ _ _ i (path-first s r) o (complete r)
   complete (G.dyn-trait r q) = λ k le. join _ (complete r).1 (complete q k (complete r).0 (omega (arith, grows s r)))
   complete (G.generic-trait {k = k} e r q) =
-      (true, open-tag _ _ _ _ e (join _ (complete r false) (say-good _ (join _ (list-good _ _ _ _ (complete q) (list-ends s q)).1 (good true k _)))))
+      (true, open-tag _ _ _ _ e (join _ (complete r false) (say-good (word W.less ∷ []) (join _ (list-good _ _ _ _ (complete q) (list-ends s q)).1 (good true k _)))))
   complete (G.plain-trait {i = i} o o' r) = (false, shut-good _ _ _ i o o' (complete r false))
   complete (G.no-binding {i = i} o) = λ k opened h. none-good _ _ _ i k opened o h
   complete (G.type-binding {i = i} {j = j} e q r t) = bound-to-good _ _ _ i e q (eat-not-good s j _ _ (λ c. rw c at (first s r)) (complete r))
@@ -440,14 +442,14 @@ module _ (s : List ℕ) where
   complete (G.placeholder {i = i} e) = λ value. const-tag _ value _ _ _ e (good tt (i + 1) _)
   complete (G.back {b = b} {i = i} {j = j} {v = v} u e q) = back-good u b i v j e q
   complete (G.followed {b = b} {i = i} {j = j} {k = k} {v = v} u e q r) = followed-good u b i v j k e q (complete r)
-  complete (G.splat {i = i} e r) = eat-good s i _ _ e (say-good _ (complete r))
-  complete (G.pattern-type e r q) = type-tag _ _ _ _ e refl (join _ (complete r) (say-good _ (complete q)))
-  complete (G.range-pattern e r q) = pat-tag _ _ _ _ e (join _ (complete r false) (say-good _ (complete q false)))
+  complete (G.splat {i = i} e r) = eat-good s i _ _ e (say-good (word W.splat ∷ []) (complete r))
+  complete (G.pattern-type e r q) = type-tag _ _ _ _ e refl (join _ (complete r) (say-good (word W.is ∷ []) (complete q)))
+  complete (G.range-pattern e r q) = pat-tag _ _ _ _ e (join _ (complete r false) (say-good (word W.range ∷ []) (complete q false)))
   complete (G.or-pattern e r q) = pat-tag _ _ _ _ e (or-good _ _ _ _ (complete r) (complete q) (list-ends s q))
   complete (G.null-pattern {i = i} e) = pat-tag _ _ _ _ e (good tt (i + 1) _)
   complete (G.const-binding {i = i} {j = j} e q e' r t) = bound-to-good _ _ _ i e q (eat-good s j _ _ e' (complete r false))
       (omega (arith, ident-grows s q, grows s r)) (omega (arith, grows s t)) (complete t)
-  complete (G.string-const {i = i} e q) = λ value. const-tag _ value _ _ _ e (braced-good _ _ _ ltr.'e' value (i + 1) (say-good _ (literal-good (i + 1) q)))
+  complete (G.string-const {i = i} e q) = λ value. const-tag _ value _ _ _ e (braced-good _ _ _ ltr.'e' value (i + 1) (say-good (word W.star ∷ []) (literal-good (i + 1) q)))
   complete (G.string-ref-const {i = i} e e' q) = λ value. const-tag _ value _ _ _ e (eat-good s (i + 1) _ _ e' (literal-good (i + 1 + 1) q))
   complete (G.ref-const {i = i} e o r) =
       λ value. const-tag _ value _ _ _ e (eat-not-good s (i + 1) _ _ o (braced-good _ _ _ ltr.'R' value _ (refer-to-good _ _ _ false _ (complete r true))))
@@ -462,4 +464,4 @@ module _ (s : List ℕ) where
       (variant_tag _ value _ _ _ e' (fields-good _ _ _ _ AValue _ value _ (complete q) (list-ends s q)))))
   complete (G.struct-const e r e' q) = λ value. const-tag _ value _ _ _ e (say-good _ (join _ (complete r true)
       (variant_tag _ value _ _ _ e' (fields-good _ _ _ _ Field _ value _ (complete q) (list-ends s q)))))
-  complete (G.field-const e r) = taken-good _ _ _ (ap g.got_named e) (say-good _ (complete r true))
+  complete (G.field-const {j = j} {d = d} {x = x} {y = y} {z = z} e r) = taken-good _ _ _ (ap g.got_named e) (say-good (g.ident s x y z j ∷ word W.field ∷ []) (complete r true))

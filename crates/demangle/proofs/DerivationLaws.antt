@@ -216,3 +216,5 @@ module _ (s : List ℕ) where
   pub list-ends : {x : Item} {f : Follow} {n b i j : ℕ} → Reads s (many x) f n b i j → j ≤ length s
   list-ends (G.list-end {i = i} e) = omega (arith, at s _ e)
   list-ends (G.list-more r q) = list-ends q
+  list-ends (G.back x _ _) = elim x [ ]
+  list-ends (G.followed x _ _ _) = elim x [ ]

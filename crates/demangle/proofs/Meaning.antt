@@ -12,7 +12,7 @@ use Rattle.printer.specs.Says.{U, Res, ok, bad}
 use Rattle.printer.specs.Model.{level}
 use Rattle.demangle.specs.Accept.{most, levels, prefix_of, is_upper, all_ascii, reached_of, path_at, second_at, behind_at, reading_of, verdict_by, verdict_at, verdict_of}
 use Rattle.demangle.specs.Rows.{number_by, number_of, suffix_by, suffix_from, whole, damaged, first_path, text_of, soundly, shown, row_by, row_of}
-use Rattle.demangle.specs.Grammar.{path, check, sound, free, Reads}
+use Rattle.demangle.specs.Grammar.{path, check, free, Reads}
 use Rattle.demangle.specs.Sound.{Ready, Behind, alone, second, Accepts, SoundTo}
 use Rattle.demangle.proofs.GrammarLaws as grammar
 use Rattle.demangle.proofs.Unique.{is_whole}

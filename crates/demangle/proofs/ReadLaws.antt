@@ -42,9 +42,9 @@ module _ {A : Type 0} (s : List ℕ) {k : ℕ} (i : ℕ) (a b : Says A) where
   pub eat-sound : {P : A → ℕ → Type 0} {w : Bool} → (s ! i ≡ suc k → Sound w (a.run (i + 1)) P) → (s ! i ≢ suc k → Sound w (b.run i) P)
       → Sound w ((g.eat s (suc k) >>= λ y. choose y a b).run i) P
   unfolding ◌>>=◌ g.eat next choose
-  eat-sound h o = after {Q = λ y j. if-then y ((s ! i ≡ suc k) × (j ≡ i + 1)) ((s ! i ≢ suc k) × (j ≡ i))} (λ y. choose y a b)
+  eat-sound {P = P} {w = w} h o = after {Q = λ y j. if-then y ((s ! i ≡ suc k) × (j ≡ i + 1)) ((s ! i ≢ suc k) × (j ≡ i))} (λ y. choose y a b)
       (past-sound s k i (λ j. ok true j false []) (ok false i false []) (λ e. sure (e, refl)) (λ e. sure (e, refl)))
-      (λ y j. elim y [ true ↦ λ q. rw q.1 (h q.0) | false ↦ λ q. rw q.1 (o q.0) ])
+      (λ y j. elim y as (λ z. if-then z ((s ! i ≡ suc k) × (j ≡ i + 1)) ((s ! i ≢ suc k) × (j ≡ i)) → Sound w ((choose z a b).run j) P) [ true ↦ λ q. rw q.1 (h q.0) | false ↦ λ q. rw q.1 (o q.0) ])
 
   pub eat-good : {v : A} {j : ℕ} → s ! i ≡ suc k → Good (a.run (i + 1)) v j → Good ((g.eat s (suc k) >>= λ y. choose y a b).run i) v j
   unfolding ◌>>=◌ g.eat choose

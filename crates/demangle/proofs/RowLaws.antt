@@ -19,7 +19,7 @@ use Rattle.printer.specs.Model.{level}
 use Rattle.printer.proofs.OverLaws.{length_over}
 use Rattle.demangle.proofs.WithinLaws.{accepted-within}
 use Rattle.demangle.specs.Accept.{levels, verdict_of}
-use Rattle.demangle.specs.Rows.{check_number, number_by, number_of, suffix_by, suffix_from, Row, whole, damaged, answer, mode_of, first_path, text_of, soundly, shown, row_by, row_of}
+use Rattle.demangle.specs.Rows.{check_number, number_by, number_of, suffix_by, suffix_from, Row, answer, mode_of, first_path, text_of, soundly, shown, row_by, row_of}
 use Rattle.demangle.specs.declared.judge.Verdict.{Verdict}
 use Rattle.demangle.specs.declared.judge.Verdict.TheVariants.{Accepted, Invalid as Refused, RecursedTooDeep as Deep, TooLong as Long}
 use Rattle.demangle.specs.declared.check.Checked.TheVariants.{Done as Passed, Invalid as NotPassed, RecursedTooDeep as TooDeep, TooLong as Longer}

@@ -2,7 +2,7 @@
 -- Assumes nothing.
 use mathlib.Core.Path.{◌≡◌, refl}
 use mathlib.Core.Bool.{Bool, true, false}
-use mathlib.Core.List.{List, []}
+use mathlib.Core.List.{List, [], ◌∷◌}
 use Prim.Native.Nat.{ℕ, zero, suc, ◌+◌}
 use native.Mathlib.Omega.{arith}
 use borrow.Author.Tests.{eqb-true, leb-true}
@@ -17,6 +17,8 @@ use Rattle.parser.specs.declared.names.Name.TheVariants.{Parts}
 use Rattle.parser.specs.declared.number.Back.TheVariants.{Target}
 use Rattle.parser.specs.declared.number.Nibbles.TheVariants.{To}
 use Rattle.pieces.specs.Basic as basics
+use Rattle.pieces.specs.Piece.{word}
+use Rattle.pieces.specs.Words as W
 use Rattle.pieces.specs.Basic.{is_basic}
 use Rattle.printer.specs.Says.{U, Res, ok, Says, onto, next, ◌>>=◌, ◌then◌, give, emit, on_error, broken, breaks, reader, need, choose, mute, pick}
 use Rattle.printer.specs.Readings.{letter_at, named_at, life_at, head_at, flag_at, scalar_at, literal_at}
@@ -69,7 +71,7 @@ module _ {w : Bool} where
   end-life-sound : (f : Bool) (b v j : ℕ) → Sound w ((g.end_life f (g.held b) v).run j) (λ _ k. (k ≡ j) × Bound (asks f) b v)
   unfolding g.end_life emit ◌then◌ ◌>>=◌ next
   end-life-sound f b v j =
-      choose-sound (eqb v 0) _ _ j (λ e. sure (refl, zero-bound f b (eqb-true v 0 e))) (λ _. said _ (life-of-sound f b v j))
+      choose-sound (eqb v 0) _ _ j (λ e. sure (refl, zero-bound f b (eqb-true v 0 e))) (λ _. said (word W.plus ∷ []) (life-of-sound f b v j))
 
 module _ (s : List ℕ) where
   module _ {w : Bool} (f : Bool) (b i : ℕ) where
@@ -89,7 +91,7 @@ module _ (s : List ℕ) where
   reference-sound : {w : Bool} (m f : Bool) (b i : ℕ)
       → Sound w ((g.reference s m f (g.held b)).run i) (λ y j. (v : ℕ) × (y ≡ true) × (life_at s i ≡ Value v j) × Bound (asks f) b v)
   unfolding g.reference g.ref_rest need reader emit give ◌then◌ ◌>>=◌ next onto
-  reference-sound m f b i = said _ (num-sound i false (life_at s i) _ (λ v j e.
+  reference-sound m f b i = said (word W.ref ∷ []) (num-sound i false (life_at s i) _ (λ v j e.
       after _ (ref-life-sound f b v j) (λ _ k q. sure (v, refl, rw q.0 e, q.1))))
 
   -- ---- lists, of elements of a part
@@ -123,7 +125,7 @@ module _ (s : List ℕ) where
   module _ {w : Bool} (tag i : ℕ) where
     int-sound : Sound w ((g.int s tag).run i) (λ _ j. (e : ℕ) × (hex_at s (past ltr.'n' s i) ≡ To e j))
     unfolding g.int emit ◌then◌ ◌>>=◌ next
-    int-sound = eat-sound s i _ _ (λ e. rw (found s _ i e) (said _ (uint-sound tag (i + 1)))) (λ o. rw (missing s _ i o) (uint-sound tag i))
+    int-sound = eat-sound s i _ _ (λ e. rw (found s _ i e) (said (word W.minus ∷ []) (uint-sound tag (i + 1)))) (λ o. rw (missing s _ i o) (uint-sound tag i))
 
   literal-sounds : {w : Bool} (i : ℕ) → Sound w ((g.literal s).run i) (λ _ j. (e : ℕ) × (literal_at s i ≡ Spelt e j))
   unfolding g.literal need reader emit
@@ -177,7 +179,7 @@ module _ (s : List ℕ) (n : ℕ) (p : g.Level) (h : Right s n p) where
   -- types and arguments
   type-sound : (f : Bool) (b i : ℕ) → Derives s type f n b i ((g.type s p f (g.held b)).run i)
   unfolding g.type emit ◌then◌ ◌>>=◌ next
-  type-sound f b i = eat-sound s i _ _ (λ e. said _ (map (h.bares f b (i + 1)) (λ _ j r. G.splat e r))) (λ o. map (h.bares f b i) (λ _ j r. G.plain_type r))
+  type-sound f b i = eat-sound s i _ _ (λ e. said (word W.splat ∷ []) (map (h.bares f b (i + 1)) (λ _ j r. G.splat e r))) (λ o. map (h.bares f b i) (λ _ j r. G.plain_type r))
 
   arg-sound : (f : Bool) (b i : ℕ) → Derives s arg f n b i ((g.arg s p f (g.held b)).run i)
   unfolding g.arg ltr.any_of
@@ -191,7 +193,7 @@ module _ (s : List ℕ) (n : ℕ) (p : g.Level) (h : Right s n p) where
   pat-sound : (f : Bool) (b i : ℕ) → Derives s pattern f n b i ((g.pat s p f (g.held b)).run i)
   unfolding g.pat g.range emit ◌then◌ ◌>>=◌ next
   pat-sound f b i = by-tag-sound s tt _ i g.unknown (pick-sound _ i _ _ _
-      ((λ e. after _ (h.consts false f b (i + 1)) (λ _ j r. said _ (map (h.consts false f b j) (λ _ k q. G.range-pattern e r q))))
+      ((λ e. after _ (h.consts false f b (i + 1)) (λ _ j r. said (word W.range ∷ []) (map (h.consts false f b j) (λ _ k q. G.range-pattern e r q))))
       or (λ e. h.ors f b i e)
       or (λ e. sure (G.null-pattern e))
       or else)
@@ -201,7 +203,7 @@ module _ (s : List ℕ) (n : ℕ) (p : g.Level) (h : Right s n p) where
   unfolding g.alternatives emit ◌then◌ ◌>>=◌ next
   alternatives-sound f b zero i = sure tt
   alternatives-sound f b (suc k) i = past-sound s _ i (λ j. ok tt j false []) _ (λ e. sure (G.list-end e))
-      (λ o. said _ (after _ (pat-sound f b i) (λ _ j r. map (alternatives-sound f b k j) (λ _ l w. G.list-more r w))))
+      (λ o. said (word W.or ∷ []) (after _ (pat-sound f b i) (λ _ j r. map (alternatives-sound f b k j) (λ _ l w. G.list-more r w))))
 
   -- dyn traits
   bound-to-sound : (f : Bool) (b i j : ℕ) {x y z : ℕ} → s ! i ≡ ltr.'p' → ident_at s (i + 1) ≡ Parts x y z j
@@ -214,8 +216,8 @@ module _ (s : List ℕ) (n : ℕ) (p : g.Level) (h : Right s n p) where
       → Sound f ((g.binding s p opened f (g.held b)).run (i + 1))
       (λ y k. (y ≡ true) × ((l : ℕ) → Reads s bindings (asks f) n b k l → Reads s bindings (asks f) n b i l))
   unfolding g.binding g.bound_name need reader emit give ◌then◌ ◌>>=◌ next onto
-  binding-sound opened f b i e = said _ (name-sound (i + 1) false (ident_at s (i + 1)) _ (λ r j e'.
-      said _ (after _ (bound-to-sound f b i j e e') (λ _ k q. sure (refl, q)))))
+  binding-sound opened f b i e = said (word (if-then opened W.comma-blank W.less) ∷ []) (name-sound (i + 1) false (ident_at s (i + 1)) _ (λ r j e'.
+      said (g.ident s r.a r.b r.c r.e ∷ word W.equals ∷ []) (after _ (bound-to-sound f b i j e e') (λ _ k q. sure (refl, q)))))
 
   bindings-sound : (k : ℕ) (opened f : Bool) (b i : ℕ) → Derives s bindings f n b i ((g.bindings s p k opened f (g.held b)).run i)
   unfolding g.bindings emit choose ◌>>=◌ next
@@ -235,7 +237,7 @@ module _ (s : List ℕ) (n : ℕ) (p : g.Level) (h : Right s n p) where
   open-path-sound f b i = rw (or-tag s false _ i (g.shut_path s p f (g.held b)).run tt) (pick-sound _ i _ _ _
       ((λ e. back-sound (i + 1) false (back_at s (i + 1)) _ (λ v j e'. h.opens f b i v j e e'))
       or (λ e. after _ (h.paths false f b (i + 1)) (λ _ j r.
-      said _ (after _ (list-of-sound args _ _ (arg-sound f b) j) (λ _ k q. sure (G.generic-trait e r q)))))
+      said (word W.less ∷ []) (after _ (list-of-sound args _ _ (arg-sound f b) j) (λ _ k q. sure (G.generic-trait e r q)))))
       or else)
       (λ o. after _ (h.paths false f b i) (λ _ j r. sure (G.plain-trait (λ e. rw e at o) (λ e. rw e at o) r))))
 
@@ -246,7 +248,7 @@ module _ (s : List ℕ) (n : ℕ) (p : g.Level) (h : Right s n p) where
   -- lists and what stands in them
   field-sound : (f : Bool) (b i : ℕ) → Derives s field f n b i ((g.field s p f (g.held b)).run i)
   unfolding g.field need reader emit ◌then◌ ◌>>=◌ next
-  field-sound f b i = named-sound i tt (named_at s i) _ (λ r j e. said _ (map (h.consts true f b j) (λ _ k q. G.field-const e q)))
+  field-sound f b i = named-sound i tt (named_at s i) _ (λ r j e. said (g.ident s r.a r.b r.c r.e ∷ word W.field ∷ []) (map (h.consts true f b j) (λ _ k q. G.field-const e q)))
 
   element-sound : (k : Item) (f : Bool) (b i : ℕ) → Derives s (each (item k)) f n b i ((g.element s p k f (g.held b)).run i)
   unfolding g.element
@@ -262,11 +264,11 @@ module _ (s : List ℕ) (n : ℕ) (p : g.Level) (h : Right s n p) where
 
   tuple-sound : (k : Item) (f : Bool) (b i : ℕ) → Derives s (many (item k)) f n b i ((g.tuple s p k f (g.held b)).run i)
   unfolding g.tuple emit ◌then◌ ◌>>=◌ next
-  tuple-sound k f b i = said _ (after _ (items-sound k f b i) (λ c j r. sure r))
+  tuple-sound k f b i = said (word W.paren ∷ []) (after _ (items-sound k f b i) (λ c j r. sure r))
 
   between-sound : (from : ℕ) (k : Item) (to : ℕ) (f : Bool) (b i : ℕ) → Derives s (many (item k)) f n b i ((g.between s p from k to f (g.held b)).run i)
   unfolding g.between emit ◌then◌ ◌>>=◌ next
-  between-sound from k to f b i = said _ (after _ (items-sound k f b i) (λ c j r. sure r))
+  between-sound from k to f b i = said (word from ∷ []) (after _ (items-sound k f b i) (λ c j r. sure r))
 
   -- the types by their tags
   refer-sound : (m f : Bool) (b i : ℕ) → Sound f ((g.refer s p m f (g.held b)).run i)
@@ -276,22 +278,22 @@ module _ (s : List ℕ) (n : ℕ) (p : g.Level) (h : Right s n p) where
 
   array-sound : (f : Bool) (b i : ℕ) → s ! i ≡ ltr.'A' → Derives s bare f (suc n) b i ((g.array s p true f (g.held b)).run (i + 1))
   unfolding g.array g.size emit choose ◌then◌ ◌>>=◌ next
-  array-sound f b i e = said _ (after _ (type-sound f b (i + 1)) (λ _ j r. after _ (said _ (h.consts true f b j)) (λ _ k q. sure (G.array-type e r q))))
+  array-sound f b i e = said (word W.bracket ∷ []) (after _ (type-sound f b (i + 1)) (λ _ j r. after (λ _. g.say W.bracket-end) (said (word W.semicolon ∷ []) (h.consts true f b j)) (λ _ k q. sure (G.array-type e r q))))
 
   slice-sound : (f : Bool) (b i : ℕ) → s ! i ≡ ltr.'S' → Derives s bare f (suc n) b i ((g.array s p false f (g.held b)).run (i + 1))
   unfolding g.array g.size emit choose ◌then◌ ◌>>=◌ next
-  slice-sound f b i e = said _ (after _ (type-sound f b (i + 1)) (λ _ j r. sure (G.slice-type e r)))
+  slice-sound f b i e = said (word W.bracket ∷ []) (after _ (type-sound f b (i + 1)) (λ _ j r. sure (G.slice-type e r)))
 
   result-sound : (f : Bool) (b i : ℕ) → Derives s type f n b i ((g.result s p f (g.held b)).run i)
   unfolding g.result g.arrow is_basic basics.among basics.basic emit ◌then◌ ◌>>=◌ next
-  result-sound f b i = eat-sound s i _ _ (λ e. sure (G.plain_type (G.basic-type (rw e tt)))) (λ o. said _ (type-sound f b i))
+  result-sound f b i = eat-sound s i _ _ (λ e. sure (G.plain_type (G.basic-type (rw e tt)))) (λ o. said (word W.arrow ∷ []) (type-sound f b i))
 
   signature-sound : (f : Bool) (b i : ℕ) → Sound f ((g.signature s p f (g.held b)).run i)
       (λ _ l. (r : g.Abi) × (j k : ℕ) × (head_at s i ≡ Before r.is_unsafe r.which r.a r.b j)
       × Reads s (many types) (asks f) n b j k × Reads s type (asks f) n b k l)
   unfolding g.signature g.parameters emit choose ◌then◌ ◌>>=◌ next
   signature-sound f b i = after _ (head-sounds s i) (λ y j q. rw q.1 (after _ (items-sound AType f b j) (λ _ k r.
-      said _ (map (result-sound f b k) (λ _ l w. (q.0, j, k, q.2, r, w))))))
+      said (word W.paren-end ∷ []) (map (result-sound f b k) (λ _ l w. (q.0, j, k, q.2, r, w))))))
 
   function-sound : (f : Bool) (b i : ℕ) → s ! i ≡ ltr.'F' → Derives s bare f (suc n) b i ((g.function s p f (g.held b)).run (i + 1))
   unfolding g.function need reader emit ◌then◌ ◌>>=◌ next
@@ -306,7 +308,7 @@ module _ (s : List ℕ) (n : ℕ) (p : g.Level) (h : Right s n p) where
 
   object-sound : (f : Bool) (b i : ℕ) → s ! i ≡ ltr.'D' → Derives s bare f (suc n) b i ((g.object s p f (g.held b)).run (i + 1))
   unfolding g.object emit ◌then◌ ◌>>=◌ next
-  object-sound f b i e = said _ (after _ (traits-sound f b (i + 1)) (λ _ k r.
+  object-sound f b i e = said (word W.dyn ∷ []) (after _ (traits-sound f b (i + 1)) (λ _ k r.
       map (bound-sound s f b k) (λ _ l q. G.dyn-trait-type e r.2 r.3 q.1 q.2 q.3)))
 
   back-sounds : (k : Kind) (f : Bool) (b i : ℕ) → s ! i ≡ ltr.'B' → Derives s (back-part k) f (suc n) b i ((g.back s p k f (g.held b)).run (i + 1))
@@ -318,15 +320,15 @@ module _ (s : List ℕ) (n : ℕ) (p : g.Level) (h : Right s n p) where
   typed-sound f b i = pick-sound _ i _ _ _
       ((λ e. map (refer-sound false f b (i + 1)) (λ _ k q. G.ref-type e q.2 q.3 q.4))
       or (λ e. map (refer-sound true f b (i + 1)) (λ _ k q. G.mut-ref-type e q.2 q.3 q.4))
-      or (λ e. said _ (map (type-sound f b (i + 1)) (λ _ j r. G.const-ptr-type e r)))
-      or (λ e. said _ (map (type-sound f b (i + 1)) (λ _ j r. G.mut-ptr-type e r)))
+      or (λ e. said (word W.ptr-const ∷ []) (map (type-sound f b (i + 1)) (λ _ j r. G.const-ptr-type e r)))
+      or (λ e. said (word W.ptr-mut ∷ []) (map (type-sound f b (i + 1)) (λ _ j r. G.mut-ptr-type e r)))
       or (λ e. array-sound f b i e)
       or (λ e. slice-sound f b i e)
       or (λ e. map (tuple-sound AType f b (i + 1)) (λ _ j r. G.tuple_type e r))
       or (λ e. function-sound f b i e)
       or (λ e. object-sound f b i e)
       or (λ e. back-sounds Ty f b i e)
-      or (λ e. after _ (type-sound f b (i + 1)) (λ _ j r. said _ (map (pat-sound f b j) (λ _ k q. G.pattern-type e r q))))
+      or (λ e. after _ (type-sound f b (i + 1)) (λ _ j r. said (word W.is ∷ []) (map (pat-sound f b j) (λ _ k q. G.pattern-type e r q))))
       or else)
       (λ o. map (h.paths false f b i) (λ _ j r. G.path-type (λ e. rw e at o) r))
 
@@ -338,7 +340,7 @@ module _ (s : List ℕ) (n : ℕ) (p : g.Level) (h : Right s n p) where
 
   string-sound : (f : Bool) (b i : ℕ) → Sound f ((g.body_by s p ltr.'e' f (g.held b)).run i) (λ _ j. (e : ℕ) × (literal_at s i ≡ Spelt e j))
   unfolding g.body_by g.unsized_literal choose emit ◌then◌ ◌>>=◌ next
-  string-sound f b i = said _ (literal-sounds s i)
+  string-sound f b i = said (word W.star ∷ []) (literal-sounds s i)
 
   values-sound : (f : Bool) (b i : ℕ) → Derives s (many consts) f n b i ((g.body_by s p ltr.'A' f (g.held b)).run i)
   unfolding g.body_by choose
@@ -350,7 +352,7 @@ module _ (s : List ℕ) (n : ℕ) (p : g.Level) (h : Right s n p) where
 
   refer-to-sound : (m f : Bool) (b i : ℕ) → Derives s const f n b i ((g.refer_to s p m f (g.held b)).run i)
   unfolding g.refer_to emit ◌then◌ ◌>>=◌ next
-  refer-to-sound m f b i = said _ (said _ (h.consts true f b i))
+  refer-to-sound m f b i = said (word W.ref ∷ []) (said _ (h.consts true f b i))
 
   ref-const-sound : (value f : Bool) (b i : ℕ) → s ! i ≡ ltr.'R' → Derives s const f (suc n) b i ((g.ref_const s p value f (g.held b)).run (i + 1))
   unfolding g.ref_const g.body_by choose
@@ -405,25 +407,25 @@ module _ (s : List ℕ) (n : ℕ) (p : g.Level) (h : Right s n p) where
 
   self-sound : (f : Bool) (b i : ℕ) → Derives s type f n b i ((g.qself s p false f (g.held b)).run i)
   unfolding g.qself g.trt choose emit ◌then◌ ◌>>=◌ next
-  self-sound f b i = said _ (after _ (type-sound f b i) (λ _ j r. sure r))
+  self-sound f b i = said (word W.less ∷ []) (after _ (type-sound f b i) (λ _ j r. sure r))
 
   as-sound : (f : Bool) (b i : ℕ)
       → Sound f ((g.qself s p true f (g.held b)).run i) (λ _ k. (j : ℕ) × Reads s type (asks f) n b i j × Reads s path (asks f) n b j k)
   unfolding g.qself g.trt choose emit ◌then◌ ◌>>=◌ next
-  as-sound f b i = said _ (after _ (type-sound f b i) (λ _ j r. after _ (said _ (h.paths false f b j)) (λ _ k q. sure (j, r, q))))
+  as-sound f b i = said (word W.less ∷ []) (after _ (type-sound f b i) (λ _ j r. after (λ _. g.say W.more) (said (word W.as-trait ∷ []) (h.paths false f b j)) (λ _ k q. sure (j, r, q))))
 
   path-sound : (value f : Bool) (b i : ℕ) → Derives s path f (suc n) b i (((g.above s p).path value f (g.held b)).run i)
   unfolding g.path_tags g.krate g.nest g.nested g.imp g.generic mute on_error need reader emit ◌then◌ ◌>>=◌ next
   path-sound value f b i = by-tag-sound s tt _ i g.unknown (pick-sound _ i _ _ _
       ((λ e. named-sound (i + 1) tt (named_at s (i + 1)) _ (λ r j q. sure (G.crate-root e q)))
       or (λ e. letter-sound (i + 1) tt (letter_at s (i + 1)) _ (λ c j e'. after _ (h.paths value f b j) (λ _ k r.
-      said _ (named-sound k tt (named_at s k) _ (λ x l q. sure (G.nested-path e e' r q))))))
+      said [] (named-sound k tt (named_at s k) _ (λ x l q. sure (G.nested-path e e' r q))))))
       or (λ e. num-sound (i + 1) tt (optional62 ltr.'s' s (i + 1)) _ (λ d j e'. after _ (hush-sound (h.paths false false b j)) (λ _ k r.
       map (self-sound f b k) (λ _ l q. G.inherent-impl e e' r q))))
       or (λ e. num-sound (i + 1) tt (optional62 ltr.'s' s (i + 1)) _ (λ d j e'. after _ (hush-sound (h.paths false false b j)) (λ _ k r.
       map (as-sound f b k) (λ _ l q. G.trait-impl e e' r q.1 q.2))))
       or (λ e. map (as-sound f b (i + 1)) (λ _ k q. G.trait-definition e q.1 q.2))
-      or (λ e. after _ (h.paths value f b (i + 1)) (λ _ j r. said _ (after _ (items-sound Arg f b j) (λ _ k q. sure (G.generic-args e r q)))))
+      or (λ e. after _ (h.paths value f b (i + 1)) (λ _ j r. said (word (if-then value W.value-less W.less) ∷ []) (after _ (items-sound Arg f b j) (λ _ k q. sure (G.generic-args e r q)))))
       or (λ e. path-back-sound value f b i e)
       or else)
       (λ o. sure tt))

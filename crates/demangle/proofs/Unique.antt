@@ -3,7 +3,6 @@ use mathlib.Core.Path.{◌≡◌, refl, sym, ap, ◌∙◌}
 use mathlib.Core.Bool.{Bool, true, false}
 use mathlib.Core.List.{List}
 use Prim.Native.Nat.{ℕ, zero, suc}
-use lib.ListN.{length}
 use denote.Ref.{Bor}
 use Rattle.demangle.specs.Part.{TailOf}
 use Rattle.demangle.specs.Rows.{check_number, number_of, suffix_from, Told, whole, damaged, unknown, Row, answer, row_of}

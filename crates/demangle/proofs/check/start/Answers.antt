@@ -13,3 +13,6 @@ returns-in-RecursedTooDeep c = search start-laws
 
 pub returns-in-TooLong : goal.returns-in-TooLong
 returns-in-TooLong c = search start-laws
+
+pub overflow_add-result : goal.overflow_add-result
+overflow_add-result c = search start-laws

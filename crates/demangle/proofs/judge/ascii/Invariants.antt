@@ -1,8 +1,7 @@
 -- What the loop of `demangle::judge::ascii` keeps, and what falls.
 use Prim.Native.Nat.{◌-◌}
 use lib.ListN.{length}
-use mathlib.Core.Logic.{⊎_elim}
-use Rattle.demangle.proofs.PrefixLaws.{Ascii, ascii-laws}
+use Rattle.demangle.proofs.PrefixLaws.{Ascii}
 use Rattle.demangle.proofs.judge.ascii.Given as goal
 
 abbrev pub invariant-loop-i : goal.invariant-loop-i

@@ -10,3 +10,9 @@ returns-then-k-eq0 c = search judge-laws
 
 pub returns : goal.returns
 returns c = search judge-laws
+
+pub slice_bounds-reading-count : goal.slice_bounds-reading-count
+slice_bounds-reading-count c = search judge-laws
+
+pub slice_bounds-reading-start : goal.slice_bounds-reading-start
+slice_bounds-reading-start c = search judge-laws

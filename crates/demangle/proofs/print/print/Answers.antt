@@ -13,3 +13,9 @@ returns-in-RecursedTooDeep c = search print-laws
 
 pub returns-in-TooLong : goal.returns-in-TooLong
 returns-in-TooLong c = search print-laws
+
+pub slice_bounds-text-count : goal.slice_bounds-text-count
+slice_bounds-text-count c = search print-laws
+
+pub slice_bounds-text-start : goal.slice_bounds-text-start
+slice_bounds-text-start c = search print-laws
