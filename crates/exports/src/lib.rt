@@ -1,5 +1,5 @@
-// The desk for programs in C and Rust: `rt staticlib exports` writes the archive, `include/vault.h` declares these functions. Each
-// takes any bytes, any mode and any buffers, empty ones too.
+// The desk for programs in C and Rust, by numbers: `exports_c` makes the archive of these functions, `include/vault.h` declares them.
+// Each takes any bytes, any mode and any buffers, empty ones too.
 #![tactic(auto)]
 
 ghost use Rattle.std.specs.Prelude.{◌≡◌, [], ◌∷◌};
@@ -11,8 +11,7 @@ use demangle::check::Checked;
 use demangle::print::{Mode, Printed};
 
 // Document 01's number of the check's answer.
-#[unsafe(no_mangle)]
-pub extern "C" fn vault_check(symbol: &[u8]) -> u32
+pub fn vault_check(symbol: &[u8]) -> u32
     ensures { result ≡ number_of symbol.now }
 {
     match demangle::check::check(symbol) {
@@ -24,8 +23,7 @@ pub extern "C" fn vault_check(symbol: &[u8]) -> u32
 }
 
 // The place where the suffix starts: it goes on to the symbol's end.
-#[unsafe(no_mangle)]
-pub extern "C" fn vault_suffix(symbol: &[u8]) -> usize
+pub fn vault_suffix(symbol: &[u8]) -> usize
     ensures { result ≡ suffix_from symbol.now }
 {
     demangle::check::start(symbol)
@@ -64,13 +62,7 @@ fn tell(report: &mut [u64], length: u64, state: u64)
 
 // Document 01's number of the print's answer. The name is laid into the buffer; the report gets its length and its state: 0 unknown,
 // 1 whole, 2 damaged.
-#[unsafe(no_mangle)]
-pub extern "C" fn vault_print(
-    symbol: &[u8],
-    mode: u32,
-    buffer: &mut [u8],
-    report: &mut [u64],
-) -> u32
+pub fn vault_print(symbol: &[u8], mode: u32, buffer: &mut [u8], report: &mut [u64]) -> u32
     ensures { reported result buffer.new report.new ≡ given report.old (row_of (mode_by mode) symbol.now buffer.old) }
 {
     let printed = demangle::print::print(symbol, mode_of(mode), buffer);
