@@ -1,4 +1,4 @@
-/* The desk for C: the functions of target/staticlib/libexports.a (`rt staticlib exports`), for x86-64.
+/* The desk for C: the functions of target/staticlib/libexports.a (`tools/archive-here`), for x86-64.
  *
  * Each function takes any bytes. A pointer is followed by the number of elements behind it: the memory must be there, the two that are
  * written must overlap nothing else that is passed, and an empty one is any pointer but NULL with 0. Nothing is kept after a call, and

@@ -1,4 +1,4 @@
-//! Links `libexports.a`, which `rt staticlib exports` writes to the repository's `target/staticlib`; `VAULT_ARCHIVE` names another folder.
+//! Links `libexports.a`, which `tools/archive-here` writes to the repository's `target/staticlib`; `VAULT_ARCHIVE` names another folder.
 use std::path::PathBuf;
 
 fn main() {
@@ -10,7 +10,7 @@ fn main() {
     println!("cargo:rerun-if-changed={}", archive.display());
     assert!(
         archive.exists(),
-        "{} is missing: `rt staticlib exports` writes it",
+        "{} is missing: `tools/archive-here` writes it",
         archive.display()
     );
     println!("cargo:rustc-link-search=native={}", folder.display());
