@@ -187,7 +187,7 @@ module _ (mode : Mode) (s o e l : List ℕ) {m : ℕ} (number : m ≡ mode_of mo
     pub text-done : get_or l 1 0 ≡ 0 → answer (Done (get_or l 3 0) (eqb (get_or l 2 0) 0)) e ≡ shown mode s o
     text-done h = fitted-as (eqb (get_or l 2 0) 0) (sound-by (first_path s) (eqb (get_or l 2 0) 0) (sym h ∙ error) (ap (λ (x : State). x.damaged) same))
 
-pub ruleset text-laws = (text-full, text-damaged, text-done, rules)
+pub ruleset text_laws = (text-full, text-damaged, text-done, rules)
 
 -- v is what was judged, b the buffer before
 module _ (mode : Mode) (s b : List ℕ) {v : Verdict} (judged : v ≡ verdict_of s) where

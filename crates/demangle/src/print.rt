@@ -31,6 +31,7 @@ fn number(mode: Mode) -> u8
 }
 
 // The first path's text.
+#[tactic(auto, using(crate::proofs::RowLaws::text_laws))]
 fn text(s: &[u8], mode: Mode, out: &mut [u8]) -> Printed
     ensures { answer result out.new ≡ shown mode s.now out.old }
 {

@@ -251,12 +251,16 @@ module _ (s : List ℕ) (at : ℕ) (r : Char) (read : r ≡ char_at s at) where
         let w = one-within s at (sym read ∙ known) in
         omega (arith, w.on, w.there)
 
--- g is what `octet` answered: a byte that is a character by itself
-module _ (s : List ℕ) (at : ℕ) (g : Got) (read : g ≡ octet_at s at) (b : ℕ) (known : g ≡ Of b) (small : b < 0x80) where
-  pub along-ascii : Along s at → Along s (at + 2)
-  along-ascii = along-on s at (One b (at + 2)) (char-ascii s at g read b known small) b (at + 2) refl
-
+-- g is what `octet` answered: a byte, which is a character by itself if it is small
+module _ (s : List ℕ) (at : ℕ) (g : Got) (read : g ≡ octet_at s at) (b : ℕ) (known : g ≡ Of b) where
   pub ascii-less : length s - (at + 2) < length s - at
-  ascii-less = along-less s at (One b (at + 2)) (char-ascii s at g read b known small) b (at + 2) refl
+  ascii-less = omega (arith, (holds s at read known).fit)
 
-pub ruleset text-laws = (along-start, along-end, along-bad, along-on, along-less, octet-fits, along-ascii, ascii-less, rules)
+  module _ (small : b < 0x80) where
+    pub ascii-same : is_text (drop at s) ≡ is_text (drop (at + 2) s)
+    ascii-same = still-text s at (sym (char-ascii s at g read b known small))
+
+    pub along-ascii : Along s at → Along s (at + 2)
+    along-ascii a = record { same = a.same ∙ ascii-same }
+
+pub ruleset text_laws = (along-start, along-end, along-bad, along-on, along-less, octet-fits, along-ascii, ascii-same, ascii-less, rules)

@@ -139,6 +139,7 @@ pub fn char_at(s: &[u8], at: usize) -> Char
 }
 
 // Whether a whole part is text: an even count of nibbles that spell characters.
+#[tactic(auto, using(crate::proofs::StepLaws::text_laws))]
 pub fn is_text(s: &[u8]) -> bool
     ensures { result ≡ is_text s.now }
 {

@@ -272,4 +272,4 @@ module _ (b : ℕ) where
   pub dashed-not : (b ≡ 95 → ⊥) → b ≡ dashed b
   dashed-not h = rw (ne_eqb b 95 h)
 
-pub ruleset dash-laws = (dashed-is, dashed-not, rules)
+pub ruleset dash_laws = (dashed-is, dashed-not, rules)

@@ -80,6 +80,7 @@ pub fn put_abi(out: &mut [u8], run: &[u8]) -> Put
     Put::Done(i)
 }
 
+#[tactic(auto, using(crate::proofs::WritingLaws::dash_laws))]
 fn dashed(b: u8) -> u8
     ensures { result ≡ dashed b }
 {
