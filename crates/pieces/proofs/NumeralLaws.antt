@@ -73,7 +73,7 @@ module _ (n : ℕ) {d e : List ℕ} {r : Put} where
   unfolding depth_text
   depth-number h w = rw (le-ltb n 26 h) w
 
-pub ruleset depth-laws = (depth-letter, depth-number, piece-laws)
+pub ruleset depth_laws = (depth-letter, depth-number, piece-laws)
 
 -- ---- hexadecimal
 -- n digits of v

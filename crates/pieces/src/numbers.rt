@@ -75,6 +75,7 @@ pub fn put_hash(out: &mut [u8], v: u64) -> Put
 }
 
 // A lifetime's name by its depth: a letter below 26, `_` and the depth from there on.
+#[tactic(auto, using(crate::proofs::NumeralLaws::depth_laws), unfolding(crate::specs::Laid::laid, crate::specs::Numeral::depth_text))]
 fn put_depth(out: &mut [u8], depth: u64) -> Put
     ensures { Wrote (depth_text depth) out.old out.new result }
 {

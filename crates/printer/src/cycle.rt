@@ -1,7 +1,7 @@
 // The cycle: paths, generic arguments, types, trait objects, patterns and constants contain one another. Levels left fall from call to
 // call. A function with no `requires` goes by the state that it finds; one that asks for a state with no error and room is called only
 // where that has been looked at.
-// Names are two or three letters, since the prover keeps the cycle's proof under all of them joined; a comment says what each is.
+// Names are two or three letters; a comment says what each is.
 ghost use Rattle.std.specs.Prelude.{◌≡◌, false, length};
 ghost use Rattle.parser.specs.Digits.{if-then};
 ghost use Rattle.printer.specs.Lay.{Going, state_of, at, given, lay, lays, follows};

@@ -52,7 +52,7 @@ fn feed(
     st
 }
 
-// The input to its end. A proved loop ends, and nothing says that the input does: no run uses up the turns.
+// The input to its end, or until a write fails. A proved loop ends, and nothing says that the input does: no run uses up the turns.
 fn all(
     input: &mut impl Read,
     line: &mut [u8],
@@ -73,6 +73,9 @@ fn all(
             break;
         }
         st = feed(&chunk[..n], line, text, to, out, st);
+        if st.used > out.len() {
+            break;
+        }
     }
     st
 }

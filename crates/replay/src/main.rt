@@ -54,7 +54,7 @@ fn feed(
     st
 }
 
-// The input to its end. A proved loop ends, and nothing says that the input does: no run uses up the turns.
+// The input to its end, or until a write fails. A proved loop ends, and nothing says that the input does: no run uses up the turns.
 fn all(
     input: &mut impl Read,
     line: &mut [u8],
@@ -76,6 +76,9 @@ fn all(
             break;
         }
         st = feed(&chunk[..n], line, text, room, to, out, st);
+        if st.used > out.len() {
+            break;
+        }
     }
     st
 }

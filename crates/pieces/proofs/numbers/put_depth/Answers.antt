@@ -1,24 +1,21 @@
 -- `pieces::numbers::put_depth` meets its contract.
-use Rattle.pieces.proofs.NumeralLaws.{depth-laws}
+use Rattle.pieces.proofs.NumeralLaws.{depth_laws}
 use Rattle.pieces.proofs.numbers.put_depth.Goals as goal
 
-pub returns-then-depth-lt26 : goal.returns-then-depth-lt26
-returns-then-depth-lt26 c = search depth-laws
-
 pub returns-in_default : goal.returns-in_default
-returns-in_default c = search depth-laws
+returns-in_default c = search depth_laws
 
 pub returns-in_default-put_decimal : goal.returns-in_default-put_decimal
-returns-in_default-put_decimal c = search depth-laws
+returns-in_default-put_decimal c = search depth_laws
 
 pub returns : goal.returns
-returns c = search depth-laws
+returns c = search depth_laws
 
 pub slice_bounds-put_decimal-count : goal.slice_bounds-put_decimal-count
-slice_bounds-put_decimal-count c = search depth-laws
+slice_bounds-put_decimal-count c = search depth_laws
 
 pub slice_bounds-put_decimal-start : goal.slice_bounds-put_decimal-start
-slice_bounds-put_decimal-start c = search depth-laws
+slice_bounds-put_decimal-start c = search depth_laws
 
 pub overflow_add-result : goal.overflow_add-result
-overflow_add-result c = search depth-laws
+overflow_add-result c = search depth_laws
