@@ -1,15 +1,16 @@
 -- `pieces::numbers::put_depth` meets its contract.
+use Rattle.std.proofs.Common.{◌≤◌, arith}
 use Rattle.pieces.proofs.NumeralLaws.{depth_laws}
 use Rattle.pieces.proofs.numbers.put_depth.Goals as goal
 
 pub returns-in_default : goal.returns-in_default
-returns-in_default c = search depth_laws
+returns-in_default c = let deep : 26 ≤ c.args.depth = omega arith in search depth_laws
 
 pub returns-in_default-put_decimal : goal.returns-in_default-put_decimal
-returns-in_default-put_decimal c = search depth_laws
+returns-in_default-put_decimal c = let deep : 26 ≤ c.args.depth = omega arith in search depth_laws
 
 pub returns : goal.returns
-returns c = search depth_laws
+returns c = let deep : 26 ≤ c.args.depth = omega arith in search depth_laws
 
 pub slice_bounds-put_decimal-count : goal.slice_bounds-put_decimal-count
 slice_bounds-put_decimal-count c = search depth_laws
