@@ -5,8 +5,8 @@ use Prim.Native.Nat.{ℕ}
 use Prim.Native.Char.{code}
 use Prim.Native.String.{String}
 use lib.ListN.{length, replicate}
-use Rattle.demangle.specs.declared.print.Mode.{Mode}
-use Rattle.demangle.specs.declared.print.Mode.TheVariants.{Plain, Short}
+use Rattle.pieces.specs.declared.mode.Mode.{Mode}
+use Rattle.pieces.specs.declared.mode.Mode.TheVariants.{Plain, Short}
 use Rattle.demangle.specs.Rows.{Told, whole, damaged, unknown, Row, row, row_of}
 use Rattle.printer.specs.Over.{over}
 use Rattle.parser.specs.Bytes as parserbytes
@@ -46,7 +46,7 @@ abbrev Line : Type 0
 Line = Mode × String × ℕ × ℕ × Told × List ℕ
 
 unfoldable read : Line → Row
-unfolding codes parserbytes.past_first parserbytes.past parserbytes.first_byte parserbytes.byte_at parserbytes.space_of parserbytes.space_at parserdigits.within parserdigits.digit_of parserdigits.digits parserdigits.value parsernames.part_of parsernames.bytes_after parsernames.span_at parsernames.later_of parsernames.last_of parsernames.split_at parsernames.coded parsernames.coded_at parsernames.plain parsernames.ident_at parsernumber.first_digit parsernumber.digit_at parsernumber.number_at parsernumber.small parsernumber.counted parsernumber.integer62 parsernumber.raised parsernumber.optional62 parsernumber.decimal parsernumber.length10 parsernumber.hex_at parsernumber.below parsernumber.back_at parserscalar.is_scalar punycodeanswer.decoded punycodeanswer.shown punycodedecode.puny_digit punycodedecode.threshold_of punycodedecode.delta_of punycodedecode.lowered punycodedecode.adapted punycodedecode.turn_of punycodedecode.insert_at punycodedecode.round_of punycodedecode.rounds punycodesteps.limited punycodesteps.as_delta punycodesteps.as_turn nibbleschars.octets nibbleschars.char_at nibbleschars.text_of nibbleschars.is_text nibblessteps.octet_at nibblessteps.more_in nibblessteps.more_at nibblessteps.settled_of nibblessteps.tail_in nibblessteps.tail_at nibblesuint.trim nibblesuint.hex_value nibblesutf8.utf8 nibblesutf8.encoded nibblesutf8.after nibblesutf8.payload nibblesutf8.first nibblesutf8.decoded nibblesutf8.decode piecesbasic.basic piecesbasic.among piecesbasic.name_in piecesbasic.is_basic piecesbasic.basic_name pieceslaid.laid pieceslaid.room piecesnames.basic_part piecesnames.parts piecesnames.raw_name piecesnames.shown_name piecesnames.name_text piecesnames.abi_text piecesnumeral.numeral_in piecesnumeral.numeral piecesnumeral.decimal piecesnumeral.hex_digit piecesnumeral.hexadecimal piecesnumeral.hash_text piecesnumeral.depth_text piecesnumeral.life_text piecespiece.spell piecespiece.spelled piecespiece.render piecesquoted.unicode piecesquoted.other piecesquoted.unquoted piecesquoted.escaped piecesquoted.escaped_all piecesquoted.quoted piecesquoted.chars_of pieceswords.ascii pieceswords.words pieceswords.word_at printerlay.doing printerlay.lays printerlay.lay printermodel.space_name printermodel.small_pieces printermodel.unless_empty printermodel.special_name printermodel.nested_name printerletters.any_of printerletters.is_unsigned printerletters.is_signed printermodel.unbound printermodel.life_of printermodel.ref_life printermodel.end_life printermodel.one_life printermodel.lives printermodel.binder printermodel.sep_of printermodel.eat printermodel.by_tag printermodel.or_tag printermodel.krate printermodel.nested printermodel.lifetime printermodel.bound_life printermodel.bound printermodel.ref_rest printermodel.reference printermodel.abi_pieces printermodel.which_abi printermodel.head_pieces printermodel.sig_head printermodel.large_pieces printermodel.integer_pieces printermodel.uint printermodel.int printermodel.integer printermodel.boolean printermodel.character printermodel.literal printermodel.unsized_literal printermodel.list_n printermodel.type printermodel.arg printermodel.trt printermodel.qself printermodel.nest printermodel.imp printermodel.back printermodel.bound_to printermodel.bound_name printermodel.binding printermodel.bindings printermodel.range printermodel.pat printermodel.alternatives printermodel.field printermodel.open_back printermodel.list_of printermodel.open_generic printermodel.shut_path printermodel.open_path printermodel.dyn_trait printermodel.says printermodel.element printermodel.list printermodel.generic printermodel.refer printermodel.pointer printermodel.size printermodel.array printermodel.tuple printermodel.arrow printermodel.result printermodel.parameters printermodel.signature printermodel.function printermodel.traits printermodel.object printermodel.patterned printermodel.refer_to printermodel.between printermodel.body_by printermodel.braced_by printermodel.ref_const printermodel.fields printermodel.variant printermodel.adt printermodel.path_tags printermodel.type_tags printermodel.const_tags printermodel.basic_or printermodel.target printermodel.level printerover.over printerreadings.tag_at printerreadings.mark_at printerreadings.letter_at printerreadings.named_at printerreadings.life_at printerreadings.abi_at printerreadings.behind_unsafe printerreadings.head_at printerreadings.flag_at printerreadings.scalar_at printerreadings.literal_at printersays.onto printersays.next printersays.◌>>=◌ printersays.◌then◌ printersays.give printersays.emit printersays.on_error printersays.breaks printersays.broken printersays.reader printersays.taken printersays.need printersays.choose printersays.mute printersays.caught printersays.pick accept.starts accept.prefix_of accept.is_upper accept.all_ascii accept.path_at accept.second_at accept.behind_at accept.reading_of accept.verdict_by accept.verdict_at accept.verdict_of rows.check_number rows.number_by rows.number_of rows.suffix_by rows.suffix_from rows.answer rows.mode_of rows.first_path rows.text_of rows.shown rows.row_by rows.row_of
+unfolding codes parserbytes.past_first parserbytes.past parserbytes.first_byte parserbytes.byte_at parserbytes.space_of parserbytes.space_at parserdigits.within parserdigits.digit_of parserdigits.digits parserdigits.value parsernames.part_of parsernames.bytes_after parsernames.span_at parsernames.later_of parsernames.last_of parsernames.split_at parsernames.coded parsernames.coded_at parsernames.plain parsernames.ident_at parsernumber.first_digit parsernumber.digit_at parsernumber.number_at parsernumber.small parsernumber.counted parsernumber.integer62 parsernumber.raised parsernumber.optional62 parsernumber.decimal parsernumber.length10 parsernumber.hex_at parsernumber.below parsernumber.back_at parserscalar.is_scalar punycodeanswer.decoded punycodeanswer.shown punycodedecode.puny_digit punycodedecode.threshold_of punycodedecode.delta_of punycodedecode.lowered punycodedecode.adapted punycodedecode.turn_of punycodedecode.insert_at punycodedecode.round_of punycodedecode.rounds punycodesteps.limited punycodesteps.as_digit punycodesteps.as_delta punycodesteps.as_turn nibbleschars.octets nibbleschars.char_at nibbleschars.text_of nibbleschars.is_text nibblessteps.first_at nibblessteps.octet_at nibblessteps.more_in nibblessteps.more_at nibblessteps.settled_of nibblessteps.tail_in nibblessteps.tail_at nibblesuint.trim nibblesuint.hex_value nibblesutf8.utf8 nibblesutf8.encoded nibblesutf8.after nibblesutf8.payload nibblesutf8.first nibblesutf8.decoded nibblesutf8.decode piecesbasic.basic piecesbasic.among piecesbasic.name_in piecesbasic.is_basic piecesbasic.basic_name pieceslaid.laid pieceslaid.room piecesnames.basic_part piecesnames.parts piecesnames.raw_name piecesnames.shown_name piecesnames.name_text piecesnames.abi_text piecesnumeral.numeral_in piecesnumeral.numeral piecesnumeral.decimal piecesnumeral.hex_digit piecesnumeral.hexadecimal piecesnumeral.hash_text piecesnumeral.depth_text piecesnumeral.life_text piecespiece.spell piecespiece.spelled piecespiece.render piecesquoted.unicode piecesquoted.other piecesquoted.unquoted piecesquoted.escaped piecesquoted.escaped_all piecesquoted.quoted piecesquoted.chars_of pieceswords.ascii pieceswords.word_at printerlay.doing printerlay.lays printerlay.lay printermodel.space_name printermodel.small_pieces printermodel.unless_empty printermodel.special_name printermodel.nested_name printerletters.any_of printerletters.is_unsigned printerletters.is_signed printermodel.unbound printermodel.life_of printermodel.ref_life printermodel.end_life printermodel.one_life printermodel.lives printermodel.binder printermodel.sep_of printermodel.eat printermodel.by_tag printermodel.or_tag printermodel.krate printermodel.nested printermodel.lifetime printermodel.bound_life printermodel.bound printermodel.ref_rest printermodel.reference printermodel.abi_pieces printermodel.maybe_abi printermodel.head_pieces printermodel.sig_head printermodel.large_pieces printermodel.integer_pieces printermodel.uint printermodel.int printermodel.integer printermodel.boolean printermodel.character printermodel.literal printermodel.unsized_literal printermodel.list_n printermodel.type printermodel.arg printermodel.trt printermodel.qself printermodel.nest printermodel.imp printermodel.back printermodel.bound_to printermodel.bound_name printermodel.binding printermodel.bindings printermodel.range printermodel.pat printermodel.alternatives printermodel.field printermodel.open_back printermodel.list_of printermodel.open_generic printermodel.shut_path printermodel.open_path printermodel.dyn_trait printermodel.says printermodel.element printermodel.list printermodel.generic printermodel.refer printermodel.pointer printermodel.size printermodel.array printermodel.tuple printermodel.arrow printermodel.result printermodel.parameters printermodel.signature printermodel.function printermodel.traits printermodel.object printermodel.patterned printermodel.refer_to printermodel.between printermodel.body_by printermodel.braced_by printermodel.ref_const printermodel.fields printermodel.variant printermodel.adt printermodel.path_tags printermodel.type_tags printermodel.const_tags printermodel.basic_or printermodel.target printermodel.level printerover.over printerreadings.tag_at printerreadings.mark_at printerreadings.named_at printerreadings.life_at printerreadings.abi_at printerreadings.behind_unsafe printerreadings.head_at printerreadings.flag_at printerreadings.scalar_at printerreadings.literal_at printersays.onto printersays.next printersays.◌>>=◌ printersays.◌then◌ printersays.give printersays.emit printersays.on_error printersays.breaks printersays.broken printersays.reader printersays.taken printersays.need printersays.choose printersays.mute printersays.caught printersays.pick accept.starts accept.prefix_of accept.is_upper accept.all_ascii accept.path_at accept.second_at accept.behind_at accept.reading_of accept.verdict_by accept.verdict_at accept.verdict_of rows.refusal_number rows.check_number rows.number_by rows.number_of rows.suffix_by rows.suffix_from rows.answer rows.first_path rows.text_of rows.shown rows.row_by rows.row_of
 read l = row_of l.0 (codes l.1) (replicate l.2 0)
 
 unfoldable expected : Line → Row

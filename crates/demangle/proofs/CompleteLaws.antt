@@ -1,4 +1,5 @@
 -- COMPLETE: where there is a derivation, the model reads to its end, without an error and without damage. Assumes nothing.
+use Rattle.std.specs.Prelude.{Some}
 use mathlib.Core.Path.{◌≡◌, refl, ap}
 use mathlib.Core.Logic.{◌≢◌}
 use mathlib.Core.Bool.{Bool, true, false, not}
@@ -12,19 +13,16 @@ use Rattle.parser.specs.Digits.{if-then}
 use Rattle.parser.specs.Bytes.{past}
 use Rattle.parser.specs.Number.{integer62, optional62, back_at, hex_at}
 use Rattle.parser.specs.Names.{ident_at}
-use Rattle.parser.specs.declared.number.Num.TheVariants.{Value}
-use Rattle.parser.specs.declared.number.Back.TheVariants.{Target}
-use Rattle.parser.specs.declared.number.Nibbles.TheVariants.{To}
-use Rattle.parser.specs.declared.names.Name.TheVariants.{Parts}
+use Rattle.parser.specs.declared.names.Name.{Name}
 use Rattle.pieces.specs.Basic as basics
 use Rattle.pieces.specs.Basic.{is_basic}
 use Rattle.pieces.specs.Piece.{word}
 use Rattle.pieces.specs.Words as W
+use Rattle.pieces.specs.declared.words.Word.{Word}
 use Rattle.printer.specs.Says.{U, invalid, too_deep, Res, ok, Says, refused, onto, next, ◌>>=◌, ◌then◌, give, emit, on_error, reader, need, choose, mute}
 use Rattle.printer.specs.Says.{pick}
 use Rattle.printer.specs.Readings.{life_at, head_at, literal_at}
-use Rattle.printer.specs.declared.read.Head.TheVariants.{Of as Before}
-use Rattle.printer.specs.declared.read.Literal.TheVariants.{Of as Spelt}
+use Rattle.printer.specs.declared.read.Head.{Head}
 use Rattle.printer.specs.declared.kinds.Item.{Item}
 use Rattle.printer.specs.declared.kinds.Item.TheVariants.{Ty as AType, Arg, Expr as AValue, Field, Trait}
 use Rattle.printer.specs.Letters as ltr
@@ -70,29 +68,29 @@ module _ (f : Follow) (b v j : ℕ) (fits : v < 2 ^ 64) (bound : Bound f b v) wh
   end-life-good = choose-good (eqb v 0) _ _ (λ _. good tt j _) (λ _. say-good (word W.plus ∷ []) (life-good f b v j fits bound))
 
 module _ (s : List ℕ) where
-  lifetime-good : (f : Follow) (b i : ℕ) {v j : ℕ} → integer62 s i ≡ Value v j → Bound f b v → Good ((g.lifetime s (follows f) (g.held b)).run i) tt j
+  lifetime-good : (f : Follow) (b i : ℕ) {v j : ℕ} → integer62 s i ≡ Some (v, j) → Bound f b v → Good ((g.lifetime s (follows f) (g.held b)).run i) tt j
   unfolding g.lifetime need reader
-  lifetime-good f b i {v} {j} e u = taken-good _ _ _ (ap g.got_num e) (life-good f b v j (integer-fits s i e) u)
+  lifetime-good f b i {v} {j} e u = taken-good _ _ _ (ap g.got_from e) (life-good f b v j (integer-fits s i e) u)
 
-  bound-good : (f : Follow) (b i : ℕ) {v j : ℕ} → s ! i ≡ ltr.'L' → integer62 s (i + 1) ≡ Value v j → Bound f b v
+  bound-good : (f : Follow) (b i : ℕ) {v j : ℕ} → s ! i ≡ ltr.'L' → integer62 s (i + 1) ≡ Some (v, j) → Bound f b v
       → Good ((g.bound s (follows f) (g.held b)).run i) tt j
   unfolding g.bound g.bound_life need reader
-  bound-good f b i {v} {j} e q u = eat-good s i _ _ e (taken-good _ _ _ (ap g.got_num q) (end-life-good f b v j (integer-fits s (i + 1) q) u))
+  bound-good f b i {v} {j} e q u = eat-good s i _ _ e (taken-good _ _ _ (ap g.got_from q) (end-life-good f b v j (integer-fits s (i + 1) q) u))
 
-  reference-good : (m : Bool) (f : Follow) (b i : ℕ) {v j : ℕ} → life_at s i ≡ Value v j → Bound f b v
+  reference-good : (m : Bool) (f : Follow) (b i : ℕ) {v j : ℕ} → life_at s i ≡ Some (v, j) → Bound f b v
       → Good ((g.reference s m (follows f) (g.held b)).run i) true j
   unfolding g.reference g.ref_rest need reader emit give ◌then◌ ◌>>=◌ next onto
-  reference-good m f b i {v} {j} e u = say-good (word W.ref ∷ []) (taken-good _ _ _ (ap g.got_num e) (join _ (ref-life-good f b v j (life-fits s i e) u) (good true j _)))
+  reference-good m f b i {v} {j} e u = say-good (word W.ref ∷ []) (taken-good _ _ _ (ap g.got_from e) (join _ (ref-life-good f b v j (life-fits s i e) u) (good true j _)))
 
-  head-good : (i : ℕ) {u : Bool} {x y z j : ℕ} → head_at s i ≡ Before u x y z j → Good ((g.sig_head s).run i) true j
+  head-good : (i : ℕ) {h : Head} {j : ℕ} → head_at s i ≡ Some (h, j) → Good ((g.sig_head s).run i) true j
   unfolding g.sig_head need reader emit give ◌then◌ ◌>>=◌ next onto
-  head-good i {j = j} e = taken-good _ _ _ (ap g.got_head e) (good true j _)
+  head-good i {j = j} e = taken-good _ _ _ (ap g.got_from e) (good true j _)
 
-  uint-good : (tag i : ℕ) {e j : ℕ} → hex_at s i ≡ To e j → Good ((g.uint s tag).run i) tt j
+  uint-good : (tag i : ℕ) {e j : ℕ} → hex_at s i ≡ Some (e, j) → Good ((g.uint s tag).run i) tt j
   unfolding g.uint need reader emit
   uint-good tag i {j = j} q = taken-good _ _ _ (hex-got s i q).1 (good tt j _)
 
-  int-good : (tag i : ℕ) {e j : ℕ} → hex_at s (past ltr.'n' s i) ≡ To e j → Good ((g.int s tag).run i) tt j
+  int-good : (tag i : ℕ) {e j : ℕ} → hex_at s (past ltr.'n' s i) ≡ Some (e, j) → Good ((g.int s tag).run i) tt j
   unfolding g.int emit ◌then◌ ◌>>=◌ next
   int-good tag i {e} {j} q = go (eqb (s ! i) ltr.'n') refl
     where
@@ -100,13 +98,13 @@ module _ (s : List ℕ) where
       go true h = let h' = eqb-true _ _ h in eat-good s i (g.say W.minus then g.uint s tag) (g.uint s tag) h' (say-good (word W.minus ∷ []) (uint-good tag (i + 1) (rw (found s _ i h') at q)))
       go false h = let h' = eqb-false _ _ h in eat-not-good s i (g.say W.minus then g.uint s tag) (g.uint s tag) h' (uint-good tag i (rw (missing s _ i h') at q))
 
-  literal-good : (i : ℕ) {e j : ℕ} → literal_at s i ≡ Spelt e j → Good ((g.literal s).run i) tt j
+  literal-good : (i : ℕ) {e j : ℕ} → literal_at s i ≡ Some (e, j) → Good ((g.literal s).run i) tt j
   unfolding g.literal need reader emit
   literal-good i {j = j} q = taken-good _ _ _ (ap (g.got_literal i) q) (good tt j _)
 
   -- ---- lists: as many turns as the list has bytes are enough
   abbrev pub Lists : Says U → ℕ → ℕ → Type 0
-  Lists m i j = (t k c : ℕ) → j ≤ i + k → (d : ℕ) × Good ((g.list_n s t m k c).run i) d j
+  Lists m i j = (t : Word) (k c : ℕ) → j ≤ i + k → (d : ℕ) × Good ((g.list_n s t m k c).run i) d j
 
   end-good : (m : Says U) (i : ℕ) → s ! i ≡ ltr.'E' → Lists m i (i + 1)
   unfolding g.list_n
@@ -120,7 +118,7 @@ module _ (s : List ℕ) where
       let w = r t k (suc c) (omega arith) in
       (w.0, past-not-good s _ i (λ j. ok c j false []) _ (λ e. rw e at o) (say-good _ (join _ h w.1)))
 
-  list-good : (p : g.Level) (m : Says U) (t i : ℕ) {j : ℕ} → Lists m i j → j ≤ length s → (d : ℕ) × Good ((g.list_of s p t m).run i) d j
+  list-good : (p : g.Level) (m : Says U) (t : Word) (i : ℕ) {j : ℕ} → Lists m i j → j ≤ length s → (d : ℕ) × Good ((g.list_of s p t m).run i) d j
   unfolding g.list_of
   list-good p m t i h l = h t (length s) 0 (omega arith)
 
@@ -134,11 +132,11 @@ module _ (s : List ℕ) where
     unfolding g.tuple emit ◌then◌ ◌>>=◌ next onto
     tuple-good k i {j} h l = say-good (word W.paren ∷ []) (join _ (items-good k i h l).1 (good tt j _))
 
-    between-good : (from : ℕ) (k : Item) (to i : ℕ) {j : ℕ} → Lists (g.element s p k f b) i j → j ≤ length s → Good ((g.between s p from k to f b).run i) tt j
+    between-good : (from : Word) (k : Item) (to : Word) (i : ℕ) {j : ℕ} → Lists (g.element s p k f b) i j → j ≤ length s → Good ((g.between s p from k to f b).run i) tt j
     unfolding g.between emit ◌then◌ ◌>>=◌ next
     between-good from k to i {j} h l = say-good (word from ∷ []) (join _ (items-good k i h l).1 (good tt j _))
 
-    fields-good : (from : ℕ) (k : Item) (to : ℕ) (value : Bool) (i : ℕ) {j : ℕ} → Lists (g.element s p k f b) i j → j ≤ length s
+    fields-good : (from : Word) (k : Item) (to : Word) (value : Bool) (i : ℕ) {j : ℕ} → Lists (g.element s p k f b) i j → j ≤ length s
         → Good ((g.fields s p from k to value f b).run i) tt j
     unfolding g.fields emit ◌then◌ ◌>>=◌
     fields-good from k to value i {j} h l = join _ (between-good from k to i h l) (good tt j _)
@@ -168,14 +166,14 @@ module _ (s : List ℕ) where
     none-good i zero opened o h = absurd (omega arith)
     none-good i (suc k) opened o h = past-not-good s _ i (turn k opened) _ o (good tt i _)
 
-    bound-to-good : (i : ℕ) {x y z j k l : ℕ} → s ! i ≡ ltr.'p' → ident_at s (i + 1) ≡ Parts x y z j → Good ((g.bound_to s p f b).run j) tt k
+    bound-to-good : (i : ℕ) {x : Name} {k l : ℕ} → s ! i ≡ ltr.'p' → ident_at s (i + 1) ≡ Some x → Good ((g.bound_to s p f b).run x.end) tt k
         → i + 2 ≤ k → k ≤ l → ((c : ℕ) (o : Bool) → l < k + c → Good ((g.bindings s p c o f b).run k) tt l)
         → (c : ℕ) (o : Bool) → l < i + c → Good ((g.bindings s p c o f b).run i) tt l
     unfolding g.bindings g.binding g.bound_name need reader emit give choose ◌then◌ ◌>>=◌ next
     bound-to-good i e q h lt le r zero o w = absurd (omega arith)
-    bound-to-good i {x = x} {y = y} {z = z} {j = j} {k = k} e q h lt le r (suc c) o w = past-good s _ i (turn c o) _ e
+    bound-to-good i {x = x} {k = k} e q h lt le r (suc c) o w = past-good s _ i (turn c o) _ e
         (join (λ y. choose y (g.bindings s p c true f b) (emit []))
-        (say-good (word (if-then o W.comma-blank W.less) ∷ []) (taken-good _ _ _ (ap g.got_name q) (say-good (g.ident s x y z j ∷ word W.equals ∷ []) (join _ h (good true k _))))) (r c true (omega arith)))
+        (say-good (word (if-then o W.comma-blank W.less) ∷ []) (taken-good _ _ _ (ap g.got_name q) (say-good (g.ident s x ∷ word W.equals ∷ []) (join _ h (good true k _))))) (r c true (omega arith)))
 
   -- ---- the model at a tag, with a level more
   path-tag : (n : ℕ) (value f : Bool) (b i : ℕ) {j k : ℕ} → s ! i ≡ suc k
@@ -274,7 +272,7 @@ module _ (s : List ℕ) where
   unfolding g.level
   const-tag n value f b i e h = by-tag-good s tt _ i (g.integer s) (at s _ e) (rw e h)
 
-  unsigned-good : (f : Bool) (n b i : ℕ) {e j : ℕ} → T (ltr.is_unsigned (s ! i)) → hex_at s (i + 1) ≡ To e j → Runs const f (suc n) b i j
+  unsigned-good : (f : Bool) (n b i : ℕ) {e j : ℕ} → T (ltr.is_unsigned (s ! i)) → hex_at s (i + 1) ≡ Some (e, j) → Runs const f (suc n) b i j
   unfolding g.level g.const_tags g.integer ltr.is_unsigned ltr.any_of pick
   unsigned-good f n b i {j = j} t q value = by-tag-good s tt _ i (g.integer s) (inside s ltr.is_unsigned i refl t)
       (any-of (λ c. Good (constant n value f (g.held b) i c) tt j) (s ! i) (ltr.'h' ∷ ltr.'j' ∷ ltr.'m' ∷ ltr.'o' ∷ ltr.'t' ∷ ltr.'y' ∷ [])
@@ -283,7 +281,7 @@ module _ (s : List ℕ) where
       u : (c : ℕ) → Good ((g.uint s c).run (i + 1)) tt j
       u c = uint-good c (i + 1) q
 
-  signed-good : (f : Bool) (n b i : ℕ) {e j : ℕ} → T (ltr.is_signed (s ! i)) → hex_at s (past ltr.'n' s (i + 1)) ≡ To e j → Runs const f (suc n) b i j
+  signed-good : (f : Bool) (n b i : ℕ) {e j : ℕ} → T (ltr.is_signed (s ! i)) → hex_at s (past ltr.'n' s (i + 1)) ≡ Some (e, j) → Runs const f (suc n) b i j
   unfolding g.level g.const_tags g.integer ltr.is_unsigned ltr.is_signed ltr.any_of pick
   signed-good f n b i {j = j} t q value = by-tag-good s tt _ i (g.integer s) (inside s ltr.is_signed i refl t)
       (any-of (λ c. Good (constant n value f (g.held b) i c) tt j) (s ! i) (ltr.'a' ∷ ltr.'i' ∷ ltr.'l' ∷ ltr.'n' ∷ ltr.'s' ∷ ltr.'x' ∷ [])
@@ -338,21 +336,21 @@ module _ (s : List ℕ) where
       go true e = rw (k (eqb-true _ _ e)) (eat-good s i (emit []) (g.arrow s p f b) (eqb-true _ _ e) (good tt (i + 1) []))
       go false e = eat-not-good s i (emit []) (g.arrow s p f b) (eqb-false _ _ e) (say-good (word W.arrow ∷ []) h)
 
-  signature-good : (p : g.Level) (f : Bool) (b i : ℕ) {u : Bool} {x y z j k l : ℕ} → head_at s i ≡ Before u x y z j → Lists (g.element s p AType f b) j k
+  signature-good : (p : g.Level) (f : Bool) (b i : ℕ) {h : Head} {j k l : ℕ} → head_at s i ≡ Some (h, j) → Lists (g.element s p AType f b) j k
       → k ≤ length s → Good ((g.result s p f b).run k) tt l → Good ((g.signature s p f b).run i) tt l
   unfolding g.signature g.parameters choose emit ◌then◌ ◌>>=◌ next
   signature-good p f b i e h le r = join _ (head-good i e) (join _ (items-good p f b AType _ h le).1 (say-good (word W.paren-end ∷ []) r))
 
-  function-good : (p : g.Level) (f : Bool) (b i : ℕ) {m j k : ℕ} → optional62 ltr.'G' s i ≡ Value m j → Good ((g.signature s p f (g.held (b + m))).run j) tt k
+  function-good : (p : g.Level) (f : Bool) (b i : ℕ) {m j k : ℕ} → optional62 ltr.'G' s i ≡ Some (m, j) → Good ((g.signature s p f (g.held (b + m))).run j) tt k
       → Good ((g.function s p f (g.held b)).run i) tt k
   unfolding g.function need reader emit ◌then◌ ◌>>=◌ next
-  function-good p f b i {m} e h = taken-good _ _ _ (ap g.got_num e) (rw (held-sum b m) (say-good _ h))
+  function-good p f b i {m} e h = taken-good _ _ _ (ap g.got_from e) (rw (held-sum b m) (say-good _ h))
 
-  object-good : (p : g.Level) (f : Bool) (b i : ℕ) {m j k l : ℕ} → optional62 ltr.'G' s i ≡ Value m j → Lists (g.element s p Trait f (g.held (b + m))) j k
+  object-good : (p : g.Level) (f : Bool) (b i : ℕ) {m j k l : ℕ} → optional62 ltr.'G' s i ≡ Some (m, j) → Lists (g.element s p Trait f (g.held (b + m))) j k
       → k ≤ length s → Good ((g.bound s f (g.held b)).run k) tt l → Good ((g.object s p f (g.held b)).run i) tt l
   unfolding g.object g.traits need reader emit ◌then◌ ◌>>=◌ next
   object-good p f b i {m} {k = k} e h le r =
-      say-good (word W.dyn ∷ []) (join _ (taken-good _ _ _ (ap g.got_num e) (rw (held-sum b m) (say-good _ (join _ (items-good p f _ Trait _ h le).1 (good tt k _))))) r)
+      say-good (word W.dyn ∷ []) (join _ (taken-good _ _ _ (ap g.got_from e) (rw (held-sum b m) (say-good _ (join _ (items-good p f _ Trait _ h le).1 (good tt k _))))) r)
 
   or-good : (f : Bool) (n b i : ℕ) {j k : ℕ} → Runs pattern f n b i j → RunsMany patterns f n b j k → k ≤ length s
       → Good (((g.level s (suc n)).ors f (g.held b)).run i) tt k
@@ -360,32 +358,32 @@ module _ (s : List ℕ) where
   or-good f n b i h r le = join _ h (r (length s) (omega arith))
 
   -- ---- back references: only read, and followed
-  back-good : {p q : Part} {n m : ℕ} → Leads p q n m → (b i v j : ℕ) → s ! i ≡ ltr.'B' → back_at s (i + 1) ≡ Target v j → Runs p false n b i j
+  back-good : {p q : Part} {n m : ℕ} → Leads p q n m → (b i v j : ℕ) → s ! i ≡ ltr.'B' → back_at s (i + 1) ≡ Some (v, j) → Runs p false n b i j
   unfolding g.path_tags g.type_tags g.const_tags g.level g.back g.open_back g.target need reader is_basic basics.among basics.basic pick
-  back-good (G.to-path {m}) b i v j e q = λ value. path-tag (suc m) value false _ i e (taken-good _ _ _ (ap g.got_back q) (good tt j _))
-  back-good (G.to_type {m}) b i v j e q = type-tag (suc m) false _ i e refl (taken-good _ _ _ (ap g.got_back q) (good tt j _))
-  back-good (G.to-const {m}) b i v j e q = λ value. const-tag (suc m) value false _ i e (taken-good _ _ _ (ap g.got_back q) (good tt j _))
-  back-good (G.to-trait {m}) b i v j e q = (false, open-tag (g.level s (suc m)) false _ i e (taken-good _ _ _ (ap g.got_back q) (good false j _)))
+  back-good (G.to-path {m}) b i v j e q = λ value. path-tag (suc m) value false _ i e (taken-good _ _ _ (ap g.got_from q) (good tt j _))
+  back-good (G.to_type {m}) b i v j e q = type-tag (suc m) false _ i e refl (taken-good _ _ _ (ap g.got_from q) (good tt j _))
+  back-good (G.to-const {m}) b i v j e q = λ value. const-tag (suc m) value false _ i e (taken-good _ _ _ (ap g.got_from q) (good tt j _))
+  back-good (G.to-trait {m}) b i v j e q = (false, open-tag (g.level s (suc m)) false _ i e (taken-good _ _ _ (ap g.got_from q) (good false j _)))
 
-  followed-path : (m b i v j k : ℕ) (value : Bool) → s ! i ≡ ltr.'B' → back_at s (i + 1) ≡ Target v j → Runs path true m b v k
+  followed-path : (m b i v j k : ℕ) (value : Bool) → s ! i ≡ ltr.'B' → back_at s (i + 1) ≡ Some (v, j) → Runs path true m b v k
       → Good (((g.level s (suc (suc m))).path value true (g.held b)).run i) tt j
   unfolding g.path_tags g.level g.back g.target g.says need reader pick
-  followed-path m b i v j k true e q h = path-tag (suc m) true true _ i e (taken-good _ _ _ (ap g.got_back q) (caught-good j (h true)))
-  followed-path m b i v j k false e q h = path-tag (suc m) false true _ i e (taken-good _ _ _ (ap g.got_back q) (caught-good j (h false)))
+  followed-path m b i v j k true e q h = path-tag (suc m) true true _ i e (taken-good _ _ _ (ap g.got_from q) (caught-good j (h true)))
+  followed-path m b i v j k false e q h = path-tag (suc m) false true _ i e (taken-good _ _ _ (ap g.got_from q) (caught-good j (h false)))
 
-  followed-const : (m b i v j k : ℕ) (value : Bool) → s ! i ≡ ltr.'B' → back_at s (i + 1) ≡ Target v j → Runs const true m b v k
+  followed-const : (m b i v j k : ℕ) (value : Bool) → s ! i ≡ ltr.'B' → back_at s (i + 1) ≡ Some (v, j) → Runs const true m b v k
       → Good (((g.level s (suc (suc m))).con value true (g.held b)).run i) tt j
   unfolding g.const_tags g.level g.back g.target g.says need reader pick
-  followed-const m b i v j k true e q h = const-tag (suc m) true true _ i e (taken-good _ _ _ (ap g.got_back q) (caught-good j (h true)))
-  followed-const m b i v j k false e q h = const-tag (suc m) false true _ i e (taken-good _ _ _ (ap g.got_back q) (caught-good j (h false)))
+  followed-const m b i v j k true e q h = const-tag (suc m) true true _ i e (taken-good _ _ _ (ap g.got_from q) (caught-good j (h true)))
+  followed-const m b i v j k false e q h = const-tag (suc m) false true _ i e (taken-good _ _ _ (ap g.got_from q) (caught-good j (h false)))
 
-  followed-good : {p q : Part} {n m : ℕ} → Leads p q n m → (b i v j k : ℕ) → s ! i ≡ ltr.'B' → back_at s (i + 1) ≡ Target v j → Runs q true m b v k
+  followed-good : {p q : Part} {n m : ℕ} → Leads p q n m → (b i v j k : ℕ) → s ! i ≡ ltr.'B' → back_at s (i + 1) ≡ Some (v, j) → Runs q true m b v k
       → Runs p true n b i j
   unfolding g.type_tags g.level g.back g.open_back g.target g.says need reader is_basic basics.among basics.basic pick
   followed-good (G.to-path {m}) b i v j k e q h = λ value. followed-path m b i v j k value e q h
-  followed-good (G.to_type {m}) b i v j k e q h = type-tag (suc m) true _ i e refl (taken-good _ _ _ (ap g.got_back q) (caught-good j h))
+  followed-good (G.to_type {m}) b i v j k e q h = type-tag (suc m) true _ i e refl (taken-good _ _ _ (ap g.got_from q) (caught-good j h))
   followed-good (G.to-const {m}) b i v j k e q h = λ value. followed-const m b i v j k value e q h
-  followed-good (G.to-trait {m}) b i v j k e q h = (h.0, open-tag (g.level s (suc m)) true _ i e (taken-good _ _ _ (ap g.got_back q) (caught-good j h.1)))
+  followed-good (G.to-trait {m}) b i v j k e q h = (h.0, open-tag (g.level s (suc m)) true _ i e (taken-good _ _ _ (ap g.got_from q) (caught-good j h.1)))
 
   -- a return type that is written `u` is a basic type
   unit-good : (f : Bool) (n b i : ℕ) {j : ℕ} → Runs type f n b i j → s ! i ≡ ltr.'u' → j ≡ i + 1
@@ -398,14 +396,14 @@ module _ (s : List ℕ) where
   unfolding g.path_tags g.krate g.nest g.nested g.imp g.generic g.type g.type_tags g.refer g.pointer g.array g.size g.patterned g.range g.open_generic
       g.bound_to g.field g.element g.const_tags g.boolean g.character g.body_by g.unsized_literal g.ref_const g.adt mute on_error need reader choose emit give
       ◌then◌ ◌>>=◌ next onto is_basic basics.among basics.basic ltr.any_of pick
-  complete (G.crate-root {j = j} e q) = λ value. path-tag _ value _ _ _ e (taken-good _ _ _ (ap g.got_named q) (good tt j _))
-  complete (G.inherent-impl e d r q) = λ value. path-tag _ value _ _ _ e (taken-good _ _ _ (ap g.got_num d)
+  complete (G.crate-root {x = x} e q) = λ value. path-tag _ value _ _ _ e (taken-good _ _ _ (ap g.got_named q) (good tt x.end _))
+  complete (G.inherent-impl e d r q) = λ value. path-tag _ value _ _ _ e (taken-good _ _ _ (ap g.got_from d)
       (join _ (hush-good (complete r false)) (self-good _ _ _ _ (complete q))))
-  complete (G.trait-impl e d r q t) = λ value. path-tag _ value _ _ _ e (taken-good _ _ _ (ap g.got_num d)
+  complete (G.trait-impl e d r q t) = λ value. path-tag _ value _ _ _ e (taken-good _ _ _ (ap g.got_from d)
       (join _ (hush-good (complete r false)) (as-good _ _ _ _ (complete q) (complete t false))))
   complete (G.trait-definition e r q) = λ value. path-tag _ value _ _ _ e (as-good _ _ _ _ (complete r) (complete q false))
-  complete (G.nested-path {l = l} e c r q) = λ value. path-tag _ value _ _ _ e (taken-good _ _ _ (ap g.got_letter c)
-      (join _ (complete r value) (say-good [] (taken-good _ _ _ (ap g.got_named q) (good tt l _)))))
+  complete (G.nested-path {x = x} e c r q) = λ value. path-tag _ value _ _ _ e (taken-good _ _ _ (ap g.got_from c)
+      (join _ (complete r value) (say-good [] (taken-good _ _ _ (ap g.got_named q) (good tt x.end _)))))
   complete (G.generic-args {k = k} e r q) = λ value. path-tag _ value _ _ _ e (join _ (complete r value)
       (say-good (word (if-then value W.value-less W.less) ∷ []) (join _ (items-good _ _ _ Arg _ (complete q) (list-ends s q)).1 (good tt k _))))
   complete (G.list-end {x} {i = i} e) = many-end x _ _ _ i e
@@ -433,12 +431,12 @@ module _ (s : List ℕ) where
       (true, open-tag _ _ _ _ e (join _ (complete r false) (say-good (word W.less ∷ []) (join _ (list-good _ _ _ _ (complete q) (list-ends s q)).1 (good true k _)))))
   complete (G.plain-trait {i = i} o o' r) = (false, shut-good _ _ _ i o o' (complete r false))
   complete (G.no-binding {i = i} o) = λ k opened h. none-good _ _ _ i k opened o h
-  complete (G.type-binding {i = i} {j = j} e q r t) = bound-to-good _ _ _ i e q (eat-not-good s j _ _ (λ c. rw c at (first s r)) (complete r))
+  complete (G.type-binding {i = i} {x = x} e q r t) = bound-to-good _ _ _ i e q (eat-not-good s x.end _ _ (λ c. rw c at (first s r)) (complete r))
       (omega (arith, ident-grows s q, grows s r)) (omega (arith, grows s t)) (complete t)
   complete (G.unsigned-const {f} {n} {b} {i} t q) = unsigned-good (follows f) n b i t q
   complete (G.signed-const {f} {n} {b} {i} t q) = signed-good (follows f) n b i t q
-  complete (G.bool-const {j = j} e q) = λ value. const-tag _ value _ _ _ e (taken-good _ _ _ (ap g.got_flag q) (good tt j _))
-  complete (G.char-const {j = j} e q) = λ value. const-tag _ value _ _ _ e (taken-good _ _ _ (ap g.got_num q) (good tt j _))
+  complete (G.bool-const {j = j} e q) = λ value. const-tag _ value _ _ _ e (taken-good _ _ _ (ap g.got_from q) (good tt j _))
+  complete (G.char-const {j = j} e q) = λ value. const-tag _ value _ _ _ e (taken-good _ _ _ (ap g.got_from q) (good tt j _))
   complete (G.placeholder {i = i} e) = λ value. const-tag _ value _ _ _ e (good tt (i + 1) _)
   complete (G.back {b = b} {i = i} {j = j} {v = v} u e q) = back-good u b i v j e q
   complete (G.followed {b = b} {i = i} {j = j} {k = k} {v = v} u e q r) = followed-good u b i v j k e q (complete r)
@@ -447,7 +445,7 @@ module _ (s : List ℕ) where
   complete (G.range-pattern e r q) = pat-tag _ _ _ _ e (join _ (complete r false) (say-good (word W.range ∷ []) (complete q false)))
   complete (G.or-pattern e r q) = pat-tag _ _ _ _ e (or-good _ _ _ _ (complete r) (complete q) (list-ends s q))
   complete (G.null-pattern {i = i} e) = pat-tag _ _ _ _ e (good tt (i + 1) _)
-  complete (G.const-binding {i = i} {j = j} e q e' r t) = bound-to-good _ _ _ i e q (eat-good s j _ _ e' (complete r false))
+  complete (G.const-binding {i = i} {x = x} e q e' r t) = bound-to-good _ _ _ i e q (eat-good s x.end _ _ e' (complete r false))
       (omega (arith, ident-grows s q, grows s r)) (omega (arith, grows s t)) (complete t)
   complete (G.string-const {i = i} e q) = λ value. const-tag _ value _ _ _ e (braced-good _ _ _ ltr.'e' value (i + 1) (say-good (word W.star ∷ []) (literal-good (i + 1) q)))
   complete (G.string-ref-const {i = i} e e' q) = λ value. const-tag _ value _ _ _ e (eat-good s (i + 1) _ _ e' (literal-good (i + 1 + 1) q))
@@ -464,4 +462,4 @@ module _ (s : List ℕ) where
       (variant_tag _ value _ _ _ e' (fields-good _ _ _ _ AValue _ value _ (complete q) (list-ends s q)))))
   complete (G.struct-const e r e' q) = λ value. const-tag _ value _ _ _ e (say-good _ (join _ (complete r true)
       (variant_tag _ value _ _ _ e' (fields-good _ _ _ _ Field _ value _ (complete q) (list-ends s q)))))
-  complete (G.field-const {j = j} {d = d} {x = x} {y = y} {z = z} e r) = taken-good _ _ _ (ap g.got_named e) (say-good (g.ident s x y z j ∷ word W.field ∷ []) (complete r true))
+  complete (G.field-const {x = x} e r) = taken-good _ _ _ (ap g.got_named e) (say-good (g.ident s x ∷ word W.field ∷ []) (complete r true))

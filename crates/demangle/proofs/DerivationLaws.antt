@@ -1,5 +1,6 @@
 -- What is known of a derivation by itself: it is a byte long at least, but for bindings, a list ends inside the symbol, and the byte that it
 -- starts with is one of its part's. Assumes nothing.
+use Rattle.std.specs.Prelude.{Some}
 use mathlib.Core.Path.{◌≡◌, refl}
 use mathlib.Core.Bool.{Bool, true, false, not}
 use mathlib.Core.List.{List, [], ◌∷◌}
@@ -16,7 +17,7 @@ use Rattle.parser.proofs.DigitLaws.{digits-none}
 use Rattle.pieces.specs.Basic as basics
 use Rattle.pieces.specs.Basic.{is_basic}
 use Rattle.printer.specs.Readings.{named_at}
-use Rattle.printer.specs.declared.read.Named.TheVariants.{Of as Called}
+use Rattle.parser.specs.declared.names.Name.{Name}
 use Rattle.printer.specs.Letters as ltr
 use Rattle.demangle.specs.Grammar as G
 use Rattle.demangle.specs.Grammar.{◌!◌, Item, Part, path, type, bare, arg, const, pattern, trait, trait-path, bindings, field, many, Follow, Leads}
@@ -139,7 +140,7 @@ module _ (s : List ℕ) where
   last_of : (i : ℕ) → s ! i ∉ never bare → s ! i ∉ ltr.'E' ∷ []
   last_of i o = type-last-of i (rest_of (s ! i) ltr.'w' (never type) o)
 
-  named-first : (i : ℕ) {d x y z j : ℕ} → named_at s i ≡ Called d x y z j → s ! i ∉ ltr.'E' ∷ []
+  named-first : (i : ℕ) {d : ℕ} {x : Name} → named_at s i ≡ Some (d, x) → s ! i ∉ ltr.'E' ∷ []
   unfolding named_at optional62 ident_at span_at length10 decimal bytes_after plain ltr.any_of digit_of within
   named-first i q = go (eqb (s ! i) ltr.'E') refl
     where

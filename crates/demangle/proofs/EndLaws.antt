@@ -44,11 +44,11 @@ module _ (s : List ℕ) where
   basic-in i t = omega (arith, inside s is_basic i refl t)
 
   pub ends : {p : Part} {f : Follow} {n b i j : ℕ} → Reads s p f n b i j → EndIn s p i j
-  ends (G.crate-root {i = i} e q) = (named-within s (i + 1) _ _ _ _ _ _ (sym q) refl).inside
+  ends (G.crate-root {i = i} e q) = (named-within s (i + 1) _ _ _ (sym q) refl).inside
   ends (G.inherent-impl e d r q) = ends q
   ends (G.trait-impl e d r q t) = ends t
   ends (G.trait-definition e r q) = ends q
-  ends (G.nested-path {k = k} e c r q) = (named-within s k _ _ _ _ _ _ (sym q) refl).inside
+  ends (G.nested-path {k = k} e c r q) = (named-within s k _ _ _ (sym q) refl).inside
   ends (G.generic-args e r q) = ends q
   ends (G.list-end {i = i} e) = behind i _ e
   ends (G.list-more r q) = ends q

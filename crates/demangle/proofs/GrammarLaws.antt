@@ -1,13 +1,14 @@
 -- What is claimed: the model and the grammar agree, a derivation's end is the only one, what is sound is accepted, and what has nothing to follow is
 -- sound. Assumes nothing.
+use Rattle.std.specs.Prelude.{Some}
 use mathlib.Core.Path.{◌≡◌}
 use mathlib.Core.Bool.{Bool, true, false}
 use mathlib.Core.List.{List}
 use Prim.Native.Nat.{ℕ, ◌+◌}
 use native.Mathlib.Omega.{arith}
 use Rattle.parser.specs.Number.{back_at}
-use Rattle.parser.specs.declared.number.Back.TheVariants.{Target}
 use Rattle.pieces.specs.Piece.{Piece}
+use Rattle.pieces.specs.Words.{comma-blank}
 use Rattle.printer.specs.Says.{U, ok, Says}
 use Rattle.printer.specs.Letters as ltr
 use Rattle.printer.specs.Model as g
@@ -36,10 +37,10 @@ bound-gives less b v u = tt
 bound-gives (none {f}) b v u = zero-bound f b v u
 
 module _ (s : List ℕ) where
-  back-gives : {p q : Part} {h : Follow} {n m b i j v : ℕ} → Gives check h → Leads p q n m → s ! i ≡ ltr.'B' → back_at s (i + 1) ≡ Target v j → Reads s p h n b i j
+  back-gives : {p q : Part} {h : Follow} {n m b i j v : ℕ} → Gives check h → Leads p q n m → s ! i ≡ ltr.'B' → back_at s (i + 1) ≡ Some (v, j) → Reads s p h n b i j
   back-gives same u e q = G.back u e q
 
-  followed-gives : {p q : Part} {h : Follow} {n m b i j k v : ℕ} → Gives sound h → Leads p q n m → s ! i ≡ ltr.'B' → back_at s (i + 1) ≡ Target v j
+  followed-gives : {p q : Part} {h : Follow} {n m b i j k v : ℕ} → Gives sound h → Leads p q n m → s ! i ≡ ltr.'B' → back_at s (i + 1) ≡ Some (v, j)
       → Reads s q sound m b v k → Reads s p h n b i j
   followed-gives same u e q r = G.followed u e q r
   followed-gives less u e q r = G.back u e q
@@ -99,7 +100,7 @@ module _ (s : List ℕ) where
 
   -- ---- two runs of a part from one place
   list-one : (m : Says U) (i : ℕ) {j k : ℕ} → Lists s m i j → Lists s m i k → j ≡ k
-  list-one m i {j} {k} h r = same_end (h 0 (j + k) 0 (omega arith)).1 (r 0 (j + k) 0 (omega arith)).1
+  list-one m i {j} {k} h r = same_end (h comma-blank (j + k) 0 (omega arith)).1 (r comma-blank (j + k) 0 (omega arith)).1
 
   items-one : (x : Item) (f : Bool) (n b i j k : ℕ) → RunsMany s x f n b i j → RunsMany s x f n b i k → j ≡ k
   items-one types f n b i j k h r = list-one _ i h r

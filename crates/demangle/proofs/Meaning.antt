@@ -1,136 +1,125 @@
 -- What Done, the suffix, whole and damaged mean, by the grammar and without the printer. Assumes nothing.
+use Rattle.std.specs.Prelude.{Option, Some, None, Ok, Err}
 use mathlib.Core.Path.{◌≡◌, refl, sym, ap, ◌∙◌, subst}
 use mathlib.Core.Bool.{Bool, true, false, ◌&&◌, true≢false}
 use mathlib.Core.List.{List}
 use Prim.Native.Nat.{ℕ, zero, suc, ◌+◌, ◌≤◌}
 use native.Mathlib.Omega.{arith}
-use borrow.Author.Tests.{ltb-false, eqb-false, le-ltb, ne_eqb, le-leb}
-use lib.Dec.{eqb, ltb}
+use borrow.Author.Tests.{ltb-false, le-ltb, le-leb}
+use lib.Dec.{ltb}
 use lib.ListN.{length, drop, get_or}
 use Rattle.parser.specs.Digits.{if-then}
 use Rattle.printer.specs.Says.{U, Res, ok, bad}
 use Rattle.printer.specs.Model.{level}
-use Rattle.demangle.specs.Accept.{most, levels, prefix_of, is_upper, all_ascii, reached_of, path_at, second_at, behind_at, reading_of, verdict_by, verdict_at, verdict_of}
-use Rattle.demangle.specs.Rows.{number_by, number_of, suffix_by, suffix_from, whole, damaged, first_path, text_of, soundly, shown, row_by, row_of}
+use Rattle.demangle.specs.Accept.{Reached, Verdict, most, levels, prefix_of, is_upper, all_ascii, reached_of, path_at, second_at, behind_at, reading_of, verdict_by, verdict_at, verdict_of}
+use Rattle.demangle.specs.Rows.{refusal_number, number_by, number_of, suffix_by, suffix_from, whole, damaged, first_path, text_of, soundly, shown, row_by, row_of}
 use Rattle.demangle.specs.Grammar.{path, check, free, Reads}
 use Rattle.demangle.specs.Sound.{Ready, Behind, alone, second, Accepts, SoundTo}
 use Rattle.demangle.proofs.GrammarLaws as grammar
 use Rattle.demangle.proofs.Unique.{is_whole}
-use Rattle.demangle.specs.declared.print.Mode.{Mode}
-use Rattle.demangle.specs.declared.judge.Reached.{Reached}
-use Rattle.demangle.specs.declared.judge.Reached.TheVariants.{At, Invalid, RecursedTooDeep}
-use Rattle.demangle.specs.declared.judge.Verdict.{Verdict}
-use Rattle.demangle.specs.declared.judge.Verdict.TheVariants.{Accepted, Invalid as Refused, RecursedTooDeep as Deep, TooLong}
+use Rattle.demangle.specs.declared.refusal.Refusal.TheVariants.{Invalid, RecursedTooDeep, TooLong, NoRoom}
+use Rattle.pieces.specs.declared.mode.Mode.{Mode}
 
 -- ---- the parts of an answer
 abbrev is_at : Reached → Bool
-is_at (At i) = true
-is_at Invalid = false
-is_at RecursedTooDeep = false
+is_at (Ok i) = true
+is_at (Err e) = false
 
 abbrev place_of : Reached → ℕ
-place_of (At i) = i
-place_of Invalid = 0
-place_of RecursedTooDeep = 0
+place_of (Ok i) = i
+place_of (Err e) = 0
 
 abbrev is_accepted : Verdict → Bool
-is_accepted (Accepted k i) = true
-is_accepted Refused = false
-is_accepted Deep = false
-is_accepted TooLong = false
+is_accepted (Ok v) = true
+is_accepted (Err e) = false
 
 abbrev prefix_in : Verdict → ℕ
-prefix_in (Accepted k i) = k
-prefix_in Refused = 0
-prefix_in Deep = 0
-prefix_in TooLong = 0
+prefix_in (Ok (k, i)) = k
+prefix_in (Err e) = 0
 
 abbrev place_in : Verdict → ℕ
-place_in (Accepted k i) = i
-place_in Refused = 0
-place_in Deep = 0
-place_in TooLong = 0
+place_in (Ok (k, i)) = i
+place_in (Err e) = 0
 
 -- ---- a path that the check reads
 module _ (t : List ℕ) where
-  run-derived : (i j : ℕ) (r : Res U) → ((level t levels).path false false 0).run i ≡ r → reached_of r ≡ At j → Reads t path check levels 0 i j
+  run-derived : (i j : ℕ) (r : Res U) → ((level t levels).path false false 0).run i ≡ r → reached_of r ≡ Ok j → Reads t path check levels 0 i j
   run-derived i j (ok a k d o) e h = subst (Reads t path check levels 0 i) (ap place_of h) (grammar.checked t levels false d 0 i k e)
   run-derived i j (bad a zero k d o) e h = absurd (true≢false (sym (ap is_at h)))
   run-derived i j (bad a (suc x) k d o) e h = absurd (true≢false (sym (ap is_at h)))
 
-  path-derived : (i j : ℕ) → path_at t i ≡ At j → Reads t path check levels 0 i j
+  path-derived : (i j : ℕ) → path_at t i ≡ Ok j → Reads t path check levels 0 i j
   unfolding path_at
   path-derived i j h = run-derived i j (((level t levels).path false false 0).run i) refl h
 
-  path-reached : (i j : ℕ) → Reads t path check levels 0 i j → path_at t i ≡ At j
+  path-reached : (i j : ℕ) → Reads t path check levels 0 i j → path_at t i ≡ Ok j
   unfolding path_at
   path-reached i j r = ap reached_of (grammar.whole t false false r).1
 
   -- ---- behind the first path
-  second-derived : (i j : ℕ) (u : Bool) → is_upper (get_or t i 0) ≡ u → if-then u (path_at t i) (At i) ≡ At j → Behind t i j
+  second-derived : (i j : ℕ) (u : Bool) → is_upper (get_or t i 0) ≡ u → if-then u (path_at t i) (Ok i) ≡ Ok j → Behind t i j
   second-derived i j true e h = second e (path-derived i j h)
   second-derived i j false e h = subst (Behind t i) (ap place_of h) (alone e)
 
-  second-reached : (i j : ℕ) → Behind t i j → second_at t i ≡ At j
+  second-reached : (i j : ℕ) → Behind t i j → second_at t i ≡ Ok j
   unfolding second_at
   second-reached i j (alone e) = rw e
   second-reached i j (second e r) = rw e (path-reached i j r)
 
 -- ---- accepted: from the verdict
-by-accepted : (m : ℕ) (r : Reached) (k j : ℕ) → verdict_by m r ≡ Accepted k j → (m ≡ k) × (r ≡ At j)
+by-accepted : (m : ℕ) (r : Reached) (k j : ℕ) → verdict_by m r ≡ Ok (k, j) → (m ≡ k) × (r ≡ Ok j)
 unfolding verdict_by
-by-accepted m (At i) k j h = (ap prefix_in h, ap (λ (v : Verdict). At (place_in v)) h)
-by-accepted m Invalid k j h = absurd (true≢false (sym (ap is_accepted h)))
-by-accepted m RecursedTooDeep k j h = absurd (true≢false (sym (ap is_accepted h)))
+by-accepted m (Ok i) k j h = (ap prefix_in h, ap (λ (v : Verdict). Ok (place_in v)) h)
+by-accepted m (Err e) k j h = absurd (true≢false (sym (ap is_accepted h)))
 
-module _ (s : List ℕ) (k : ℕ) (short : length s ≤ most) (found : prefix_of s ≡ k) (some : k ≡ 0 → ⊥) where
-  behind-derived : (j : ℕ) (f : Reached) → path_at (drop k s) 0 ≡ f → behind_at (drop k s) f ≡ At j → Ready s k → Accepts s k j
+module _ (s : List ℕ) (k : ℕ) (short : length s ≤ most) (found : prefix_of s ≡ Some k) where
+  behind-derived : (j : ℕ) (f : Reached) → path_at (drop k s) 0 ≡ f → behind_at (drop k s) f ≡ Ok j → Ready s k → Accepts s k j
   unfolding behind_at second_at
-  behind-derived j (At i) e h q =
+  behind-derived j (Ok i) e h q =
       record { ready = q; end = i; first = path-derived (drop k s) 0 i e; rest = second-derived (drop k s) i j (is_upper (get_or (drop k s) i 0)) refl h }
-  behind-derived j Invalid e h q = absurd (true≢false (sym (ap is_at h)))
-  behind-derived j RecursedTooDeep e h q = absurd (true≢false (sym (ap is_at h)))
+  behind-derived j (Err x) e h q = absurd (true≢false (sym (ap is_at h)))
 
-  ready-derived : (j : ℕ) (u a : Bool) → is_upper (get_or (drop k s) 0 0) ≡ u → all_ascii (drop k s) ≡ a → if-then (u && a) (behind_at (drop k s) (path_at (drop k s) 0)) Invalid ≡ At j → Accepts s k j
+  ready-derived : (j : ℕ) (u a : Bool) → is_upper (get_or (drop k s) 0 0) ≡ u → all_ascii (drop k s) ≡ a → if-then (u && a) (behind_at (drop k s) (path_at (drop k s) 0)) (Err Invalid) ≡ Ok j → Accepts s k j
   ready-derived j true true e g h =
-      behind-derived j (path_at (drop k s) 0) refl h (record { short = short; prefix = found; some = some; letter = e; ascii = g })
+      behind-derived j (path_at (drop k s) 0) refl h (record { short = short; prefix = found; letter = e; ascii = g })
   ready-derived j true false e g h = absurd (true≢false (sym (ap is_at h)))
   ready-derived j false a e g h = absurd (true≢false (sym (ap is_at h)))
 
-  reading-derived : (j : ℕ) → reading_of (drop k s) ≡ At j → Accepts s k j
+  reading-derived : (j : ℕ) → reading_of (drop k s) ≡ Ok j → Accepts s k j
   unfolding reading_of
   reading-derived j h = ready-derived j (is_upper (get_or (drop k s) 0 0)) (all_ascii (drop k s)) refl refl h
 
-prefix-derived : (s : List ℕ) (m k j : ℕ) → length s ≤ most → prefix_of s ≡ m → (z : Bool) → eqb m 0 ≡ z → if-then z Refused (verdict_by m (reading_of (drop m s))) ≡ Accepted k j → Accepts s k j
-prefix-derived s m k j l f true e h = absurd (true≢false (sym (ap is_accepted h)))
-prefix-derived s m k j l f false e h = go (by-accepted m (reading_of (drop m s)) k j h)
-  where
-    go : (m ≡ k) × (reading_of (drop m s) ≡ At j) → Accepts s k j
-    go q = subst (λ (x : ℕ). Accepts s x j) q.0 (reading-derived s m l f (eqb-false m 0 e) j q.1)
-
-length-derived : (s : List ℕ) (k j : ℕ) (z : Bool) → ltb most (length s) ≡ z → if-then z TooLong (verdict_at s (prefix_of s)) ≡ Accepted k j → Accepts s k j
+prefix-derived : (s : List ℕ) (m : Option ℕ) (k j : ℕ) → length s ≤ most → prefix_of s ≡ m → verdict_at s m ≡ Ok (k, j) → Accepts s k j
 unfolding verdict_at
+prefix-derived s (Some m) k j l f h = go (by-accepted m (reading_of (drop m s)) k j h)
+  where
+    go : (m ≡ k) × (reading_of (drop m s) ≡ Ok j) → Accepts s k j
+    go q = subst (λ (x : ℕ). Accepts s x j) q.0 (reading-derived s m l f j q.1)
+prefix-derived s None k j l f h = absurd (true≢false (sym (ap is_accepted h)))
+
+length-derived : (s : List ℕ) (k j : ℕ) (z : Bool) → ltb most (length s) ≡ z → if-then z (Err TooLong) (verdict_at s (prefix_of s)) ≡ Ok (k, j) → Accepts s k j
 length-derived s k j true e h = absurd (true≢false (sym (ap is_accepted h)))
-length-derived s k j false e h = prefix-derived s (prefix_of s) k j (ltb-false most (length s) e) refl (eqb (prefix_of s) 0) refl h
+length-derived s k j false e h = prefix-derived s (prefix_of s) k j (ltb-false most (length s) e) refl h
 
 -- ======== THE THEOREMS
 -- accepted, with a prefix of k bytes and a suffix j bytes behind it: exactly where there are the derivations
-pub accepts : (s : List ℕ) (k j : ℕ) → verdict_of s ≡ Accepted k j → Accepts s k j
+pub accepts : (s : List ℕ) (k j : ℕ) → verdict_of s ≡ Ok (k, j) → Accepts s k j
 unfolding verdict_of
 accepts s k j h = length-derived s k j (ltb most (length s)) refl h
 
-pub accepted : (s : List ℕ) (k j : ℕ) → Accepts s k j → verdict_of s ≡ Accepted k j
+pub accepted : (s : List ℕ) (k j : ℕ) → Accepts s k j → verdict_of s ≡ Ok (k, j)
 unfolding verdict_of verdict_at verdict_by reading_of behind_at
 accepted s k j a =
-    rw (le-ltb most (length s) a.ready.short, a.ready.prefix, ne_eqb k 0 a.ready.some, a.ready.letter, a.ready.ascii, path-reached (drop k s) 0 a.end a.first, second-reached (drop k s) a.end j a.rest)
+    rw (le-ltb most (length s) a.ready.short, a.ready.prefix, a.ready.letter, a.ready.ascii, path-reached (drop k s) 0 a.end a.first, second-reached (drop k s) a.end j a.rest)
 
 -- so of the check's number and of the suffix: Done exactly for such a symbol, and the suffix starts where the last derivation ends
 number-done : (s : List ℕ) (v : Verdict) → verdict_of s ≡ v → number_by v ≡ 0 → (k : ℕ) × (j : ℕ) × Accepts s k j
-unfolding number_by
-number-done s (Accepted k j) e h = (k, j, accepts s k j e)
-number-done s Refused e h = absurd (omega (arith, h))
-number-done s Deep e h = absurd (omega (arith, h))
-number-done s TooLong e h = absurd (omega (arith, h))
+unfolding number_by refusal_number
+number-done s (Ok (k, j)) e h = (k, j, accepts s k j e)
+number-done s (Err Invalid) e h = absurd (omega (arith, h))
+number-done s (Err RecursedTooDeep) e h = absurd (omega (arith, h))
+number-done s (Err TooLong) e h = absurd (omega (arith, h))
+number-done s (Err NoRoom) e h = absurd (omega (arith, h))
 
 pub done-accepts : (s : List ℕ) → number_of s ≡ 0 → (k : ℕ) × (j : ℕ) × Accepts s k j
 unfolding number_of
@@ -165,7 +154,7 @@ pub free-sound : (t : List ℕ) (j : ℕ) → Reads t path free levels 0 0 j →
 free-sound t j r = grammar.free-reads t r
 
 -- s is accepted with a prefix of k bytes, and its text fits the buffer b
-module _ (mode : Mode) (s b : List ℕ) (k i : ℕ) (taken : verdict_of s ≡ Accepted k i) (fits : length (text_of mode (drop k s)) ≤ length b) where
+module _ (mode : Mode) (s b : List ℕ) (k i : ℕ) (taken : verdict_of s ≡ Ok (k, i)) (fits : length (text_of mode (drop k s)) ≤ length b) where
   state-is : (row_of mode s b).state ≡ if-then (soundly (first_path (drop k s))) whole damaged
   unfolding row_of row_by shown
   state-is = rw (taken, le-leb (length (text_of mode (drop k s))) (length b) fits)

@@ -1,58 +1,52 @@
--- The prefix, upper-case letters and ASCII: what `prefix`, `upper` and `ascii` answer. Assumes nothing.
-use mathlib.Core.Path.{◌≡◌, refl, sym, ◌∙◌}
-use mathlib.Core.Bool.{Bool, true, false, true≢false, and-true}
+-- The prefix, upper-case letters and ASCII: what the library's methods answer is what the definitions say. Assumes nothing.
+use Rattle.std.specs.Prelude.{Option, Some, None, MatchBool}
+use Rattle.std.specs.Cmp.{nat_eq_equiv}
+use Rattle.std.specs.List.{starts_with}
+use Rattle.std.specs.Str.{IsAscii, IsNotAscii}
+use mathlib.Core.Path.{◌≡◌, refl, sym, ap, ◌∙◌}
+use mathlib.Core.Bool.{Bool, true, false, true≢false, ◌&&◌}
 use mathlib.Core.List.{List, [], ◌∷◌}
-use Prim.Native.Nat.{ℕ, suc, ◌+◌, ◌≤◌, ◌<◌}
+use Prim.Native.Nat.{ℕ, zero, suc, ◌≤◌}
 use native.Mathlib.Omega.{arith}
-use native.Mathlib.Numerals.{add-one}
 use borrow.Author.Rules.{rules}
-use borrow.Author.Tests.{le-leb, lt-leb, ne_eqb, lt-ltb, le-ltb, ltb-true, ltb-false}
-use lib.Dec.{leb, eqb, ltb}
-use lib.ListN.{length, get_or, drop, drop_of_length-le}
-use lib.Seq.{drop-cons}
+use borrow.Author.Tests.{lt-ltb, le-ltb}
+use lib.Dec.{eqb, ltb}
+use lib.ListN.{length, get_or}
 use Rattle.parser.specs.Digits.{if-then}
-use Rattle.demangle.specs.Accept.{starts, prefix_of, is_upper, all_ascii}
+use Rattle.printer.specs.Says.{U}
+use Rattle.demangle.specs.Accept.{starts, prefix_of, all_ascii}
 
--- ---- the prefix, by its first bytes
-pub prefix-one : (s : List ℕ) (a : ℕ) → a ≡ get_or s 0 0 → a ≡ 82 → 1 ≡ prefix_of s
-unfolding prefix_of starts
-prefix-one [] a h k = absurd (omega (arith, h, k))
-prefix-one (x ∷ s) a h k = rw (sym h ∙ k)
+-- ---- the prefix
+test-and : (t u : Bool) → t && u ≡ if-then t u false
+test-and true u = refl
+test-and false u = refl
 
-pub prefix-none : (s : List ℕ) (a : ℕ) → a ≡ get_or s 0 0 → (a ≡ 82 → ⊥) → (a ≡ 95 → ⊥) → 0 ≡ prefix_of s
-unfolding prefix_of starts
-prefix-none [] a h k l = refl
-prefix-none (x ∷ s) a h k l = rw (ne_eqb x 82 (λ q. k (h ∙ q)), ne_eqb x 95 (λ q. l (h ∙ q)))
+pub starts-is : (s p : List ℕ) → starts_with eqb s p ≡ starts p s
+unfolding starts
+starts-is s [] = refl
+starts-is [] (p ∷ ps) = refl
+starts-is (x ∷ s) (p ∷ ps) = test-and (eqb p x) (starts_with eqb s ps) ∙ rw (nat_eq_equiv.symm p x, starts-is s ps)
 
-module _ (a b : ℕ) (under : a ≡ 95) where
-  pub prefix-two : (s : List ℕ) → a ≡ get_or s 0 0 → b ≡ get_or s 1 0 → b ≡ 82 → 2 ≡ prefix_of s
-  unfolding prefix_of starts
-  prefix-two [] h k l = absurd (omega (arith, k, l))
-  prefix-two (x ∷ []) h k l = absurd (omega (arith, k, l))
-  prefix-two (x ∷ y ∷ s) h k l = rw (sym h ∙ under, sym k ∙ l)
+module _ (s : List ℕ) {a : Bool} (one : a ≡ starts_with eqb s (82 ∷ [])) where
+  pub prefix-one : a ≡ true → Some 1 ≡ prefix_of s
+  unfolding prefix_of
+  prefix-one h = rw (← starts-is s (82 ∷ []), ← one, h)
 
-  pub prefix-other : (s : List ℕ) → a ≡ get_or s 0 0 → b ≡ get_or s 1 0 → (b ≡ 82 → ⊥) → (b ≡ 95 → ⊥) → 0 ≡ prefix_of s
-  unfolding prefix_of starts
-  prefix-other [] h k l m = refl
-  prefix-other (x ∷ []) h k l m = rw (sym h ∙ under)
-  prefix-other (x ∷ y ∷ s) h k l m = rw (sym h ∙ under, ne_eqb y 82 (λ q. l (k ∙ q)), ne_eqb y 95 (λ q. m (k ∙ q)))
+  module _ {b : Bool} (not-one : a ≡ false) (two : b ≡ starts_with eqb s (95 ∷ 82 ∷ [])) where
+    pub prefix-two : b ≡ true → Some 2 ≡ prefix_of s
+    unfolding prefix_of
+    prefix-two h = rw (← starts-is s (82 ∷ []), ← one, not-one, ← starts-is s (95 ∷ 82 ∷ []), ← two, h)
 
-  module _ (c : ℕ) (twice : b ≡ 95) where
-    pub prefix-three : (s : List ℕ) → a ≡ get_or s 0 0 → b ≡ get_or s 1 0 → c ≡ get_or s 2 0 → c ≡ 82 → 3 ≡ prefix_of s
-    unfolding prefix_of starts
-    prefix-three [] h k l m = absurd (omega (arith, l, m))
-    prefix-three (x ∷ []) h k l m = absurd (omega (arith, l, m))
-    prefix-three (x ∷ y ∷ []) h k l m = absurd (omega (arith, l, m))
-    prefix-three (x ∷ y ∷ z ∷ s) h k l m = rw (sym h ∙ under, sym k ∙ twice, sym l ∙ m)
+    module _ {c : Bool} (not-two : b ≡ false) (three : c ≡ starts_with eqb s (95 ∷ 95 ∷ 82 ∷ [])) where
+      pub prefix-three : c ≡ true → Some 3 ≡ prefix_of s
+      unfolding prefix_of
+      prefix-three h = rw (← starts-is s (82 ∷ []), ← one, not-one, ← starts-is s (95 ∷ 82 ∷ []), ← two, not-two, ← starts-is s (95 ∷ 95 ∷ 82 ∷ []), ← three, h)
 
-    pub prefix-short : (s : List ℕ) → a ≡ get_or s 0 0 → b ≡ get_or s 1 0 → c ≡ get_or s 2 0 → (c ≡ 82 → ⊥) → 0 ≡ prefix_of s
-    unfolding prefix_of starts
-    prefix-short [] h k l m = refl
-    prefix-short (x ∷ []) h k l m = absurd (omega (arith, k, twice))
-    prefix-short (x ∷ y ∷ []) h k l m = rw (sym h ∙ under, sym k ∙ twice)
-    prefix-short (x ∷ y ∷ z ∷ s) h k l m = rw (sym h ∙ under, sym k ∙ twice, ne_eqb z 82 (λ q. m (l ∙ q)))
+      pub prefix-none : c ≡ false → None ≡ prefix_of s
+      unfolding prefix_of
+      prefix-none h = rw (← starts-is s (82 ∷ []), ← one, not-one, ← starts-is s (95 ∷ 82 ∷ []), ← two, not-two, ← starts-is s (95 ∷ 95 ∷ 82 ∷ []), ← three, h)
 
-pub ruleset prefix-laws = (prefix-one, prefix-none, prefix-two, prefix-other, prefix-three, prefix-short, rules)
+pub ruleset prefix_laws = (prefix-one, prefix-two, prefix-three, prefix-none, rules)
 
 -- it stands within the symbol
 within-if : (t u : Bool) (n m : ℕ) → if-then t u false ≡ true → (u ≡ true → n ≤ m) → suc n ≤ suc m
@@ -65,63 +59,37 @@ starts-within [] s h = omega arith
 starts-within (p ∷ ps) [] h = absurd (true≢false (sym h))
 starts-within (p ∷ ps) (x ∷ s) h = within-if (eqb x p) (starts ps s) (length ps) (length s) h (λ k. starts-within ps s k)
 
-pub prefix-within : (s : List ℕ) → prefix_of s ≤ length s
+abbrev pub PrefixIn : List ℕ → Option ℕ → Type 0
+PrefixIn s (Some k) = k ≤ length s
+PrefixIn s None = U
+
+pub prefix-within : (s : List ℕ) → PrefixIn s (prefix_of s)
 unfolding prefix_of
 prefix-within s = go (starts (82 ∷ []) s) (starts (95 ∷ 82 ∷ []) s) (starts (95 ∷ 95 ∷ 82 ∷ []) s) refl refl refl
   where
-    go : (t u v : Bool) → starts (82 ∷ []) s ≡ t → starts (95 ∷ 82 ∷ []) s ≡ u → starts (95 ∷ 95 ∷ 82 ∷ []) s ≡ v → if-then t 1 (if-then u 2 (if-then v 3 0)) ≤ length s
+    go : (t u v : Bool) → starts (82 ∷ []) s ≡ t → starts (95 ∷ 82 ∷ []) s ≡ u → starts (95 ∷ 95 ∷ 82 ∷ []) s ≡ v → PrefixIn s (if-then t (Some 1) (if-then u (Some 2) (if-then v (Some 3) None)))
     go true u v h k l = starts-within _ s h
     go false true v h k l = starts-within _ s k
     go false false true h k l = starts-within _ s l
-    go false false false h k l = omega arith
+    go false false false h k l = tt
 
--- ---- upper-case letters
-module _ (b : ℕ) where
-  pub upper-below : b < 65 → false ≡ is_upper b
-  unfolding is_upper
-  upper-below h = rw (lt-leb 65 b h)
+-- ---- ASCII
+ascii-all : (s : List ℕ) → IsAscii s → true ≡ all_ascii s
+unfolding all_ascii
+ascii-all [] h = refl
+ascii-all (c ∷ s) h = rw (lt-ltb c 128 (h 0)) (ascii-all s (λ i. h (suc i)))
 
-  pub upper-from : 65 ≤ b → leb b 90 ≡ is_upper b
-  unfolding is_upper
-  upper-from h = rw (le-leb 65 b h)
+and-no : (t : Bool) → t && false ≡ false
+and-no true = refl
+and-no false = refl
 
-pub ruleset upper-laws = (upper-below, upper-from, rules)
+ascii-not : (s : List ℕ) (i : ℕ) → 128 ≤ get_or s i 0 → false ≡ all_ascii s
+unfolding all_ascii
+ascii-not [] i h = absurd (omega arith)
+ascii-not (c ∷ s) zero h = rw (le-ltb c 128 h)
+ascii-not (c ∷ s) (suc i) h = sym (and-no (ltb c 128)) ∙ ap (λ (t : Bool). ltb c 128 && t) (ascii-not s i h)
 
--- ---- ASCII: the greatest byte before a place stands for all of them
-pub record Ascii (s : List ℕ) (i top : ℕ) : Type 0 where
-  pub same : all_ascii s ≡ all_ascii (top ∷ drop i s)
-
--- of two bytes the greater counts
-module _ (a b : ℕ) (s : List ℕ) where
-  first-counts : b ≤ a → all_ascii (a ∷ b ∷ s) ≡ all_ascii (a ∷ s)
-  unfolding all_ascii
-  first-counts h = go (ltb a 128) refl
-    where
-      go : (t : Bool) → ltb a 128 ≡ t → all_ascii (a ∷ b ∷ s) ≡ all_ascii (a ∷ s)
-      go true k = rw (k, lt-ltb b 128 (omega (arith, ltb-true a 128 k)))
-      go false k = rw k
-
-  second-counts : a < b → all_ascii (a ∷ b ∷ s) ≡ all_ascii (b ∷ s)
-  unfolding all_ascii
-  second-counts h = go (ltb a 128) refl
-    where
-      go : (t : Bool) → ltb a 128 ≡ t → all_ascii (a ∷ b ∷ s) ≡ all_ascii (b ∷ s)
-      go true k = rw k
-      go false k = rw (k, le-ltb b 128 (omega (arith, ltb-false a 128 k)))
-
-module _ (s : List ℕ) where
-  pub ascii-start : Ascii s 0 0
-  ascii-start = record { same = unfold all_ascii in refl }
-
-  module _ (i top : ℕ) (before : Ascii s i top) where
-    pub ascii-keep : i < length s → get_or s i 0 ≤ top → Ascii s (i + 1) top
-    ascii-keep h k = record { same = before.same ∙ rw (drop-cons s i 0 h, add-one) (first-counts top (get_or s i 0) (drop (suc i) s) k) }
-
-    pub ascii-raise : i < length s → top < get_or s i 0 → Ascii s (i + 1) (get_or s i 0)
-    ascii-raise h k = record { same = before.same ∙ rw (drop-cons s i 0 h, add-one) (second-counts top (get_or s i 0) (drop (suc i) s) k) }
-
-    pub ascii-end : length s ≤ i → ltb top 128 ≡ all_ascii s
-    unfolding all_ascii
-    ascii-end h = sym (before.same ∙ rw (drop_of_length-le s h) (and-true (ltb top 128)))
-
-pub ruleset ascii-laws = (ascii-start, ascii-keep, ascii-raise, ascii-end, rules)
+-- t is what the library's test answered
+pub ascii_is : (s : List ℕ) (t : Bool) → MatchBool t (IsAscii s) (IsNotAscii s) → t ≡ all_ascii s
+ascii_is s true h = ascii-all s h
+ascii_is s false h = ascii-not s h.0 h.1

@@ -1,5 +1,7 @@
 -- The laws of what is read at once: a byte that is there or not, a tag, a number, a name. In both directions. Assumes nothing.
-use mathlib.Core.Path.{◌≡◌, refl}
+use Rattle.std.specs.Prelude.{Option, Some, None}
+use Rattle.std.proofs.lemmas.Option.{some_pair_parts}
+use mathlib.Core.Path.{◌≡◌, refl, ap}
 use mathlib.Core.Logic.{◌≢◌}
 use mathlib.Core.Bool.{Bool, true, false}
 use mathlib.Core.List.{List, []}
@@ -10,30 +12,14 @@ use lib.Dec.{eqb, leb}
 use lib.ListN.{length, get_or, drop}
 use Rattle.parser.specs.Digits.{if-then, digits, value}
 use Rattle.parser.specs.Number.{hex_at}
-use Rattle.parser.specs.declared.number.Num.{Num}
-use Rattle.parser.specs.declared.number.Num.TheVariants.{Value, Invalid as NoNum}
-use Rattle.parser.specs.declared.number.Back.{Back}
-use Rattle.parser.specs.declared.number.Back.TheVariants.{Target, Invalid as NoBack}
-use Rattle.parser.specs.declared.number.Nibbles.{Nibbles}
-use Rattle.parser.specs.declared.number.Nibbles.TheVariants.{To, Invalid as NoNibbles}
+use Rattle.parser.specs.Bytes.{read}
 use Rattle.parser.specs.declared.names.Name.{Name}
-use Rattle.parser.specs.declared.names.Name.TheVariants.{Parts, Invalid as NoName}
 use Rattle.parser.proofs.ByteLaws as bytes
 use Rattle.nibbles.specs.Uint.{hex_value, trim}
 use Rattle.nibbles.specs.declared.uint.Hex.{Hex}
-use Rattle.nibbles.specs.declared.uint.Hex.TheVariants.{Small, Big, Invalid as NoHex}
+use Rattle.nibbles.specs.declared.uint.Hex.TheVariants.{Small, Big}
 use Rattle.printer.specs.Says.{invalid, Res, ok, Says, refused, next, ◌>>=◌, reader, choose, got, taken, Tags, pick}
 use Rattle.printer.specs.Model as g
-use Rattle.printer.specs.declared.read.Letter.{Letter}
-use Rattle.printer.specs.declared.read.Letter.TheVariants.{Of as Ns, Invalid as NoLetter}
-use Rattle.printer.specs.declared.read.Named.{Named}
-use Rattle.printer.specs.declared.read.Named.TheVariants.{Of as Called, Invalid as NoNamed}
-use Rattle.printer.specs.declared.read.Head.{Head}
-use Rattle.printer.specs.declared.read.Head.TheVariants.{Of as Before, Invalid as NoHead}
-use Rattle.printer.specs.declared.read.Flag.{Flag}
-use Rattle.printer.specs.declared.read.Flag.TheVariants.{Of as Is, Invalid as NoFlag}
-use Rattle.printer.specs.declared.read.Literal.{Literal}
-use Rattle.printer.specs.declared.read.Literal.TheVariants.{Of as Spelt, Invalid as NoLiteral}
 use Rattle.demangle.specs.Grammar.{◌!◌}
 use Rattle.demangle.proofs.RunLaws.{Sound, sure, after, Good, good, join, past-sound, past-good, past-not-good, ◌∉◌, tags, pick-none}
 
@@ -84,79 +70,59 @@ module _ {A : Type 0} (s : List ℕ) (z : A) (ts : Tags A) (i : ℕ) where
     ]
 
 -- nibbles up to e, where a `_` stands there; and what they are as a number
-abbrev nibbles : Bool → ℕ → Nibbles
-nibbles t e = if-then t (To e (e + 1)) NoNibbles
+abbrev nibbles : Bool → ℕ → Option (ℕ × ℕ)
+nibbles t e = if-then t (read e (e + 1)) None
 
-abbrev hex : Bool → Bool → ℕ → ℕ → Hex
-hex t u v e = if-then t (if-then u (Small v (e + 1)) (Big e (e + 1))) NoHex
+abbrev hex : Bool → Bool → ℕ → ℕ → Option (Hex × ℕ)
+hex t u v e = if-then t (if-then u (read (Small v) (e + 1)) (read (Big e) (e + 1))) None
 
 -- ---- readings: what follows is sound where the reader has answered
 module _ {B : Type 0} {P : B → ℕ → Type 0} {w : Bool} (i : ℕ) (z : B) where
-  pub num-sound : (x : Num) (f : ℕ → Says B) → ((v j : ℕ) → x ≡ Value v j → Sound w ((f v).run j) P) → Sound w (taken (g.got_num x) i z f) P
+  pub read-sound : {A : Type 0} (x : Option (A × ℕ)) (f : A → Says B) → ((v : A) (j : ℕ) → x ≡ Some (v, j) → Sound w ((f v).run j) P)
+      → Sound w (taken (g.got_from x) i z f) P
   unfolding taken
-  num-sound (Value v j) f h = h v j refl
-  num-sound NoNum f h = sure tt
+  read-sound (Some (v, j)) f h = h v j refl
+  read-sound None f h = sure tt
 
-  pub back-sound : (x : Back) (f : ℕ → Says B) → ((v j : ℕ) → x ≡ Target v j → Sound w ((f v).run j) P) → Sound w (taken (g.got_back x) i z f) P
-  unfolding taken
-  back-sound (Target v j) f h = h v j refl
-  back-sound NoBack f h = sure tt
-
-  pub letter-sound : (x : Letter) (f : ℕ → Says B) → ((v j : ℕ) → x ≡ Ns v j → Sound w ((f v).run j) P) → Sound w (taken (g.got_letter x) i z f) P
-  unfolding taken
-  letter-sound (Ns v j) f h = h v j refl
-  letter-sound NoLetter f h = sure tt
-
-  pub flag-sound : (x : Flag) (f : Bool → Says B) → ((v : Bool) (j : ℕ) → x ≡ Is v j → Sound w ((f v).run j) P) → Sound w (taken (g.got_flag x) i z f) P
-  unfolding taken
-  flag-sound (Is v j) f h = h v j refl
-  flag-sound NoFlag f h = sure tt
-
-  pub name-sound : (x : Name) (f : g.Places → Says B) → ((r : g.Places) (j : ℕ) → x ≡ Parts r.a r.b r.c j → Sound w ((f r).run j) P)
+  pub name-sound : (x : Option Name) (f : Name → Says B) → ((n : Name) → x ≡ Some n → Sound w ((f n).run n.end) P)
       → Sound w (taken (g.got_name x) i z f) P
   unfolding taken
-  name-sound (Parts a b c e) f h = h _ e refl
-  name-sound NoName f h = sure tt
+  name-sound (Some n) f h = h n refl
+  name-sound None f h = sure tt
 
-  pub named-sound : (x : Named) (f : g.Places → Says B)
-      → ((r : g.Places) (j : ℕ) → x ≡ Called r.num r.a r.b r.c j → Sound w ((f r).run j) P) → Sound w (taken (g.got_named x) i z f) P
+  pub named-sound : (x : Option (ℕ × Name)) (f : ℕ × Name → Says B) → ((d : ℕ) (n : Name) → x ≡ Some (d, n) → Sound w ((f (d, n)).run n.end) P)
+      → Sound w (taken (g.got_named x) i z f) P
   unfolding taken
-  named-sound (Called d a b c e) f h = h _ e refl
-  named-sound NoNamed f h = sure tt
+  named-sound (Some (d, n)) f h = h d n refl
+  named-sound None f h = sure tt
 
-  pub head-sound : (x : Head) (f : g.Abi → Says B)
-      → ((r : g.Abi) (j : ℕ) → x ≡ Before r.is_unsafe r.which r.a r.b j → Sound w ((f r).run j) P) → Sound w (taken (g.got_head x) i z f) P
-  unfolding taken
-  head-sound (Before u k a b j) f h = h _ j refl
-  head-sound NoHead f h = sure tt
-
-  pub literal-sound : (x : Literal) (f : ℕ × ℕ → Says B) → ((e j : ℕ) → x ≡ Spelt e j → Sound w ((f (i, e)).run j) P)
+  pub literal-sound : (x : Option (ℕ × ℕ)) (f : ℕ × ℕ → Says B) → ((e j : ℕ) → x ≡ Some (e, j) → Sound w ((f (i, e)).run j) P)
       → Sound w (taken (g.got_literal i x) i z f) P
   unfolding taken
-  literal-sound (Spelt e j) f h = h e j refl
-  literal-sound NoLiteral f h = sure tt
+  literal-sound (Some (e, j)) f h = h e j refl
+  literal-sound None f h = sure tt
 
   -- an integer's nibbles, whether they fit 64 bits or not
-  hex-cases : (t u : Bool) (v e : ℕ) (f : g.Integer → Says B) → ((x : g.Integer) (e' j : ℕ) → nibbles t e ≡ To e' j → Sound w ((f x).run j) P)
+  hex-cases : (t u : Bool) (v e : ℕ) (f : g.Integer → Says B) → ((x : g.Integer) (e' j : ℕ) → nibbles t e ≡ Some (e', j) → Sound w ((f x).run j) P)
       → Sound w (taken (g.got_hex i (hex t u v e)) i z f) P
   unfolding taken
   hex-cases true true v e f h = h _ _ _ refl
   hex-cases true false v e f h = h _ _ _ refl
   hex-cases false u v e f h = sure tt
 
-  pub hex-sound : (s : List ℕ) (f : g.Integer → Says B) → ((x : g.Integer) (e j : ℕ) → hex_at s i ≡ To e j → Sound w ((f x).run j) P)
+  pub hex-sound : (s : List ℕ) (f : g.Integer → Says B) → ((x : g.Integer) (e j : ℕ) → hex_at s i ≡ Some (e, j) → Sound w ((f x).run j) P)
       → Sound w (taken (g.got_hex i (hex_value s i)) i z f) P
   unfolding hex_value hex_at
   hex-sound s f h =
       let ds = digits 16 (drop i s) in
       hex-cases (eqb (get_or s (i + length ds) 0) 95) (leb (length (trim ds)) 16) (value 16 (trim ds)) (i + length ds) f h
 
-got-cases : (i : ℕ) (t u : Bool) (v e : ℕ) {e' j : ℕ} → nibbles t e ≡ To e' j → (x : g.Integer) × (g.got_hex i (hex t u v e) ≡ got x j)
-got-cases i true true v e q = (g.small v, cc)
-got-cases i true false v e q = (g.large i e, cc)
+got-cases : (i : ℕ) (t u : Bool) (v e : ℕ) {e' j : ℕ} → nibbles t e ≡ Some (e', j) → (x : g.Integer) × (g.got_hex i (hex t u v e) ≡ got x j)
+got-cases i true true v e {e'} {j} q = (g.small v, ap (λ (k : ℕ). got (g.small v) k) (some_pair_parts e e' (e + 1) j q).1)
+got-cases i true false v e {e'} {j} q = (g.large i e, ap (λ (k : ℕ). got (g.large i e) k) (some_pair_parts e e' (e + 1) j q).1)
 got-cases i false u v e q = let x : ◌≡◌ {A = ℕ} 0 1 = cc in absurd (omega arith)
 
-pub hex-got : (s : List ℕ) (i : ℕ) {e j : ℕ} → hex_at s i ≡ To e j → (x : g.Integer) × (g.got_hex i (hex_value s i) ≡ got x j)
+pub hex-got : (s : List ℕ) (i : ℕ) {e j : ℕ} → hex_at s i ≡ Some (e, j) → (x : g.Integer) × (g.got_hex i (hex_value s i) ≡ got x j)
 unfolding hex_value hex_at
 hex-got s i q =
     let ds = digits 16 (drop i s) in

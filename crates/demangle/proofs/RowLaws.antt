@@ -1,81 +1,82 @@
 -- What `check`, `suffix` and `print` answer. Assumes nothing.
+use Rattle.std.specs.Prelude.{Some, Ok, Err}
 use mathlib.Core.Path.{◌≡◌, refl, sym, ap, ◌∙◌}
 use mathlib.Core.Bool.{Bool, true, false, not, true≢false}
-use mathlib.Core.List.{List, [], ◌∷◌}
-use Prim.Native.Nat.{ℕ, ◌+◌, ◌-◌, ◌^◌, ◌≤◌, ◌<◌}
+use mathlib.Core.List.{List}
+use Prim.Native.Nat.{ℕ, suc, ◌+◌, ◌-◌, ◌^◌, ◌≤◌, ◌<◌}
 use native.Mathlib.Omega.{arith}
 use borrow.Author.Rules.{rules}
 use mir.Val.{Fits}
 use mir.Syntax.{w64}
-use borrow.Author.Tests.{ne_eqb}
-use lib.Dec.{leb, eqb}
-use lib.ListN.{length, get_or, take, drop, length-drop}
+use lib.Dec.{leb}
+use lib.ListN.{length, take, drop, length-drop}
 use lib.Seq.{take_all}
-use Rattle.parser.specs.Digits.{if-then}
+use Rattle.pieces.specs.declared.mode.Mode.{Mode}
 use Rattle.printer.specs.Says.{U, Res, ok, bad, Says}
 use Rattle.printer.specs.Over.{over}
-use Rattle.printer.specs.Lay.{State, state_of, World, world, at, lay, lays, doing, fitted, full_state, text, place_of, error_of, damage_of, follows}
+use Rattle.printer.specs.Lay.{State, state_of, World, world, at, lay, lays, doing, fitted, full_state, text, place_of, error_of, damage_of, fresh, code_of, filled}
 use Rattle.printer.specs.Model.{level}
+use Rattle.printer.specs.declared.state.Status.{Status}
+use Rattle.printer.specs.declared.state.Status.TheVariants.{Going, Invalid as IsInvalid, RecursedTooDeep as IsDeep, Full}
+use Rattle.printer.specs.declared.state.Printer.{Printer}
 use Rattle.printer.proofs.OverLaws.{length_over}
 use Rattle.demangle.proofs.WithinLaws.{accepted-within}
-use Rattle.demangle.specs.Accept.{levels, verdict_of}
-use Rattle.demangle.specs.Rows.{check_number, number_by, number_of, suffix_by, suffix_from, Row, answer, mode_of, first_path, text_of, soundly, shown, row_by, row_of}
-use Rattle.demangle.specs.declared.judge.Verdict.{Verdict}
-use Rattle.demangle.specs.declared.judge.Verdict.TheVariants.{Accepted, Invalid as Refused, RecursedTooDeep as Deep, TooLong as Long}
-use Rattle.demangle.specs.declared.check.Checked.TheVariants.{Done as Passed, Invalid as NotPassed, RecursedTooDeep as TooDeep, TooLong as Longer}
-use Rattle.demangle.specs.declared.print.Mode.{Mode}
-use Rattle.demangle.specs.declared.print.Mode.TheVariants.{Plain, Short}
-use Rattle.demangle.specs.declared.print.Printed.TheVariants.{Done, Invalid, RecursedTooDeep, TooLong, NoRoom}
+use Rattle.demangle.specs.Accept.{Verdict, levels, verdict_of}
+use Rattle.demangle.specs.Rows.{check_number, refusal_number, number_by, number_of, suffix_by, suffix_from, Row, answer, first_path, text_of, soundly, shown, row_by, row_of}
+use Rattle.demangle.specs.declared.refusal.Refusal.{Refusal}
+use Rattle.demangle.specs.declared.refusal.Refusal.TheVariants.{Invalid, RecursedTooDeep, TooLong, NoRoom}
+
+-- ---- a refusal's number
+module _ (e : Refusal) where
+  pub number-invalid : e ≡ Invalid → 1 ≡ refusal_number e
+  unfolding refusal_number
+  number-invalid h = rw h
+
+  pub number-deep : e ≡ RecursedTooDeep → 2 ≡ refusal_number e
+  unfolding refusal_number
+  number-deep h = rw h
+
+  pub number-long : e ≡ TooLong → 3 ≡ refusal_number e
+  unfolding refusal_number
+  number-long h = rw h
+
+  pub number-full : e ≡ NoRoom → 4 ≡ refusal_number e
+  unfolding refusal_number
+  number-full h = rw h
+
+pub ruleset number_laws = (number-invalid, number-deep, number-long, number-full, rules)
 
 -- ---- the check; v is what was judged
 module _ (s : List ℕ) {v : Verdict} (judged : v ≡ verdict_of s) where
-  pub check_done : {k i : ℕ} → v ≡ Accepted k i → check_number Passed ≡ number_of s
+  pub check_done : {x : ℕ × ℕ} → v ≡ Ok x → check_number (Ok tt) ≡ number_of s
   unfolding check_number number_of number_by
   check_done h = rw (← judged, h)
 
-  pub check-invalid : v ≡ Refused → check_number NotPassed ≡ number_of s
+  pub check-refused : {e : Refusal} → v ≡ Err e → check_number (Err e) ≡ number_of s
   unfolding check_number number_of number_by
-  check-invalid h = rw (← judged, h)
-
-  pub check-deep : v ≡ Deep → check_number TooDeep ≡ number_of s
-  unfolding check_number number_of number_by
-  check-deep h = rw (← judged, h)
-
-  pub check-long : v ≡ Long → check_number Longer ≡ number_of s
-  unfolding check_number number_of number_by
-  check-long h = rw (← judged, h)
+  check-refused h = rw (← judged, h)
 
   -- where the suffix starts
-  pub start-done : {k i : ℕ} → v ≡ Accepted k i → k + i ≡ suffix_from s
+  pub start-done : {k i : ℕ} → v ≡ Ok (k, i) → k + i ≡ suffix_from s
   unfolding suffix_from suffix_by
   start-done h = rw (← judged, h)
 
-  pub start-invalid : v ≡ Refused → length s ≡ suffix_from s
+  pub start-refused : {e : Refusal} → v ≡ Err e → length s ≡ suffix_from s
   unfolding suffix_from suffix_by
-  start-invalid h = rw (← judged, h)
+  start-refused h = rw (← judged, h)
 
-  pub start-deep : v ≡ Deep → length s ≡ suffix_from s
-  unfolding suffix_from suffix_by
-  start-deep h = rw (← judged, h)
-
-  pub start-long : v ≡ Long → length s ≡ suffix_from s
-  unfolding suffix_from suffix_by
-  start-long h = rw (← judged, h)
-
-  pub start_fits : {k i : ℕ} → v ≡ Accepted k i → length s < 2 ^ 64 → Fits w64 (k + i)
+  pub start_fits : {k i : ℕ} → v ≡ Ok (k, i) → length s < 2 ^ 64 → Fits w64 (k + i)
   start_fits h n = let m : _ ≤ length s = accepted-within s judged h in omega arith
 
-pub ruleset check-laws = (check_done, check-invalid, check-deep, check-long, rules)
+pub ruleset check_laws = (check_done, check-refused, rules)
 
-pub ruleset start-laws = (start-done, start-invalid, start-deep, start-long, start_fits, rules)
+pub ruleset start_laws = (start-done, start-refused, start_fits, rules)
 
 -- it lies within the symbol
 suffix-by : (s : List ℕ) (v : Verdict) → v ≡ verdict_of s → suffix_by s v ≤ length s
 unfolding suffix_by
-suffix-by s (Accepted k i) h = accepted-within s h refl
-suffix-by s Refused h = omega arith
-suffix-by s Deep h = omega arith
-suffix-by s Long h = omega arith
+suffix-by s (Ok (k, i)) h = accepted-within s h refl
+suffix-by s (Err e) h = omega arith
 
 pub suffix_within : (s : List ℕ) {n : ℕ} → n ≡ suffix_from s → n ≤ length s
 unfolding suffix_from
@@ -85,36 +86,20 @@ suffix_within s h = rw h (suffix-by s (verdict_of s) refl)
 pub tail-bytes : (n : ℕ) (s : List ℕ) → take (length s - n) (drop n s) ≡ drop n s
 tail-bytes n s = take_all (length s - n) (drop n s) (omega (arith, length-drop n s))
 
-pub ruleset suffix-laws = (suffix_within, rules)
+pub ruleset suffix_laws = (suffix_within, rules)
 
 -- ---- the print
-pub number-plain : (mode : Mode) → mode ≡ Plain → 1 ≡ mode_of mode
-unfolding mode_of
-number-plain mode h = rw h
-
-pub number_short : (mode : Mode) → mode ≡ Short → 2 ≡ mode_of mode
-unfolding mode_of
-number_short mode h = rw h
-
-pub ruleset number-laws = (number-plain, number_short, rules)
-
--- a mode's number is not 0
-follows-mode : (mode : Mode) → follows (mode_of mode) ≡ true
-unfolding mode_of
-follows-mode Plain = refl
-follows-mode Short = refl
-
 minus-zero : (n : ℕ) → n - 0 ≡ n
 minus-zero n = omega arith
 
 -- a buffer and a fresh state after a path: its text is laid, and the state is its run's, or full
-abbrev ended : ℕ → Res U → State
-ended m r = record { place = place_of r; error = error_of r; damaged = damage_of r; written = 0 + length (text m r); full = false }
+abbrev ended : Mode → Res U → State
+ended m r = record { place = place_of r; error = error_of r; damaged = damage_of r; written = 0 + length (text (Some m) r); full = false }
 
-laid-fresh : (m : ℕ) (a : Says U) (o : List ℕ) → lay m a (at o (0 ∷ 0 ∷ 0 ∷ 0 ∷ [])) ≡ world (over o 0 (text m (a.run 0))) (fitted (leb (length (text m (a.run 0))) (length o)) (ended m (a.run 0)) full_state)
+laid-fresh : (m : Mode) (a : Says U) (o : List ℕ) → lay (Some m) a (world o (fresh 0)) ≡ world (over o 0 (text (Some m) (a.run 0))) (fitted (leb (length (text (Some m) (a.run 0))) (length o)) (ended m (a.run 0)) full_state)
 unfolding lay lays doing
 laid-fresh m a o =
-    ap (λ (n : ℕ). world (over o 0 (text m (a.run 0))) (fitted (leb (length (text m (a.run 0))) n) (ended m (a.run 0)) full_state)) (minus-zero (length o))
+    ap (λ (n : ℕ). world (over o 0 (text (Some m) (a.run 0))) (fitted (leb (length (text (Some m) (a.run 0))) n) (ended m (a.run 0)) full_state)) (minus-zero (length o))
 
 -- full exactly where the text does not fit
 fits_not : (t : Bool) (q s : State) → s ≡ fitted t q full_state → q.full ≡ false → s.full ≡ true → t ≡ false
@@ -130,68 +115,71 @@ fits-as true q s h k = h
 fits-as false q s h k = absurd (true≢false (sym (ap (λ (x : State). x.full) h) ∙ k))
 
 -- whole: by the error and the damage
-sound-not : (r : Res U) (e : ℕ) → e ≡ error_of r → (e ≡ 0 → ⊥) → false ≡ soundly r
-sound-not (ok a j d o) e h k = absurd (k h)
-sound-not (bad a x j d o) e h k = refl
+sound-by : (r : Res U) (d : Bool) → 0 ≡ error_of r → d ≡ damage_of r → not d ≡ soundly r
+sound-by (ok a j e o) d h k = rw k
+sound-by (bad a y j e o) d h k = absurd (omega (arith, h))
 
-not-not : (t : Bool) → t ≡ not (not t)
-not-not true = refl
-not-not false = refl
-
-sound-by : (r : Res U) (t : Bool) → 0 ≡ error_of r → not t ≡ damage_of r → t ≡ soundly r
-sound-by (ok a j d o) t h k = not-not t ∙ ap not k
-sound-by (bad a x j d o) t h k = absurd (omega (arith, h))
-
-abbrev fitting : Mode → List ℕ → List ℕ → Bool
-fitting mode s o = leb (length (text_of mode s)) (length o)
+unsound-by : (r : Res U) {x : ℕ} → suc x ≡ error_of r → false ≡ soundly r
+unsound-by (ok a j e o) h = absurd (omega (arith, h))
+unsound-by (bad a y j e o) h = refl
 
 abbrev printed : List ℕ → Says U
 printed s = (level s levels).path true true 0
 
-module _ (mode : Mode) (s o e l : List ℕ) {m : ℕ} (number : m ≡ mode_of mode) (done : at e l ≡ lay m ((level s levels).path true (follows m) 0) (at o (0 ∷ 0 ∷ 0 ∷ 0 ∷ []))) where
-  after : at e l ≡ world (over o 0 (text_of mode s)) (fitted (leb (length (text_of mode s)) (length o)) (ended (mode_of mode) (first_path s)) full_state)
+-- p is the printer before, and q after; o is the buffer before, and e after
+module _ (mode : Mode) (s o e : List ℕ) (p q : Printer) (lent : p.out.now ≡ o) (new : state_of p.st ≡ fresh 0) (done : at q ≡ lay (Some mode) ((level s levels).path true true 0) (at p)) (back : e ≡ q.out.now) where
+  after : at q ≡ world (over o 0 (text_of mode s)) (fitted (leb (length (text_of mode s)) (length o)) (ended mode (first_path s)) full_state)
   unfolding text_of first_path
-  after = done ∙ (rw (number, follows-mode mode) (laid-fresh (mode_of mode) (printed s) o))
+  after = (rw (lent, new) at done) ∙ laid-fresh mode (printed s) o
 
-  state : state_of l ≡ fitted (leb (length (text_of mode s)) (length o)) (ended (mode_of mode) (first_path s)) full_state
+  state : state_of q.st ≡ fitted (leb (length (text_of mode s)) (length o)) (ended mode (first_path s)) full_state
   state = ap (λ (w : World). w.st) after
 
   laid-is : e ≡ over o 0 (text_of mode s)
-  laid-is = ap (λ (w : World). w.buf) after
+  laid-is = back ∙ ap (λ (w : World). w.buf) after
 
-  pub text-full : get_or l 1 0 ≡ 3 → answer NoRoom e ≡ shown mode s o
+  abbrev fitting : Bool
+  fitting = leb (length (text_of mode s)) (length o)
+
+  pub text-full : q.st.status ≡ Full → answer (Err NoRoom) e ≡ shown mode s o
   unfolding answer shown
-  text-full h = rw (fits_not (fitting mode s o) (ended (mode_of mode) (first_path s)) (state_of l) state refl (rw h), laid-is, length_over o 0 (text_of mode s))
+  text-full h = rw (fits_not fitting (ended mode (first_path s)) (state_of q.st) state refl (rw h), laid-is, length_over o 0 (text_of mode s))
 
-  module _ (room : get_or l 1 0 ≡ 3 → ⊥) where
-    there : (state_of l).full ≡ false
-    there = ne_eqb (get_or l 1 0) 3 room
+  module _ (room : filled q.st.status ≡ false) where
+    same : state_of q.st ≡ ended mode (first_path s)
+    same = fits-as fitting (ended mode (first_path s)) (state_of q.st) state room
 
-    same : state_of l ≡ ended (mode_of mode) (first_path s)
-    same = fits-as (fitting mode s o) (ended (mode_of mode) (first_path s)) (state_of l) state there
+    error-is : code_of q.st.status ≡ error_of (first_path s)
+    error-is = ap (λ (x : State). x.error) same
 
-    error : get_or l 1 0 ≡ error_of (first_path s)
-    error = let g : if-then (eqb (get_or l 1 0) 3) 0 (get_or l 1 0) ≡ error_of (first_path s) = ap (λ (x : State). x.error) same in rw there at g
-
-    length-is : get_or l 3 0 ≡ length (text_of mode s)
+    length-is : q.st.written ≡ length (text_of mode s)
     unfolding text_of
-    length-is = let h : get_or l 3 0 ≡ 0 + length (text_of mode s) = ap (λ (x : State). x.written) same in omega (arith, h)
+    length-is = let h : q.st.written ≡ 0 + length (text_of mode s) = ap (λ (x : State). x.written) same in omega (arith, h)
 
-    fitted-as : (w : Bool) → w ≡ soundly (first_path s) → answer (Done (get_or l 3 0) w) e ≡ shown mode s o
+    done-is : (w : Bool) → w ≡ soundly (first_path s) → answer (Ok (record { length = q.st.written; whole = w })) e ≡ shown mode s o
     unfolding answer shown
-    fitted-as w h = rw (fits (fitting mode s o) (ended (mode_of mode) (first_path s)) (state_of l) state there, length-is, laid-is, h)
+    done-is w h = rw (fits fitting (ended mode (first_path s)) (state_of q.st) state room, h, length-is, laid-is)
 
-    pub text-damaged : (get_or l 1 0 ≡ 0 → ⊥) → answer (Done (get_or l 3 0) false) e ≡ shown mode s o
-    text-damaged h = fitted-as false (sound-not (first_path s) (get_or l 1 0) error h)
+  pub text-done : q.st.status ≡ Going → answer (Ok (record { length = q.st.written; whole = not q.st.damaged })) e ≡ shown mode s o
+  text-done h =
+      let room : filled q.st.status ≡ false = rw h in
+      done-is room (not q.st.damaged) (sound-by (first_path s) q.st.damaged (rw h at (error-is room)) (ap (λ (x : State). x.damaged) (same room)))
 
-    pub text-done : get_or l 1 0 ≡ 0 → answer (Done (get_or l 3 0) (eqb (get_or l 2 0) 0)) e ≡ shown mode s o
-    text-done h = fitted-as (eqb (get_or l 2 0) 0) (sound-by (first_path s) (eqb (get_or l 2 0) 0) (sym h ∙ error) (ap (λ (x : State). x.damaged) same))
+  module _ (full : q.st.status ≡ Full → ⊥) (going : q.st.status ≡ Going → ⊥) where
+    pub text-damaged : answer (Ok (record { length = q.st.written; whole = false })) e ≡ shown mode s o
+    text-damaged = go q.st.status refl
+      where
+        go : (x : Status) → q.st.status ≡ x → answer (Ok (record { length = q.st.written; whole = false })) e ≡ shown mode s o
+        go Going h = absurd (going h)
+        go IsInvalid h = done-is (rw h) false (unsound-by (first_path s) (rw h at (error-is (rw h))))
+        go IsDeep h = done-is (rw h) false (unsound-by (first_path s) (rw h at (error-is (rw h))))
+        go Full h = absurd (full h)
 
-pub ruleset text_laws = (text-full, text-damaged, text-done, rules)
+pub ruleset text_laws = (text-full, text-done, text-damaged, rules)
 
 -- v is what was judged, b the buffer before
 module _ (mode : Mode) (s b : List ℕ) {v : Verdict} (judged : v ≡ verdict_of s) where
-  module _ {k i : ℕ} (known : v ≡ Accepted k i) where
+  module _ {k i : ℕ} (known : v ≡ Ok (k, i)) where
     pub print-within : k ≤ length s
     print-within = let h : k + i ≤ length s = accepted-within s judged known in omega arith
 
@@ -199,16 +187,8 @@ module _ (mode : Mode) (s b : List ℕ) {v : Verdict} (judged : v ≡ verdict_of
     unfolding row_of row_by
     print-done h = h ∙ rw (tail-bytes k s, ← judged, known)
 
-  pub print-invalid : v ≡ Refused → answer Invalid b ≡ row_of mode s b
-  unfolding answer row_of row_by
-  print-invalid h = rw (← judged, h)
+  pub print-refused : {e : Refusal} → v ≡ Err e → answer (Err e) b ≡ row_of mode s b
+  unfolding row_of row_by
+  print-refused h = rw (← judged, h)
 
-  pub print-deep : v ≡ Deep → answer RecursedTooDeep b ≡ row_of mode s b
-  unfolding answer row_of row_by
-  print-deep h = rw (← judged, h)
-
-  pub print-long : v ≡ Long → answer TooLong b ≡ row_of mode s b
-  unfolding answer row_of row_by
-  print-long h = rw (← judged, h)
-
-pub ruleset print-laws = (print-within, print-done, print-invalid, print-deep, print-long, rules)
+pub ruleset print_laws = (print-within, print-done, print-refused, rules)

@@ -1,5 +1,6 @@
 -- SOUND: where the model reads without an error and without damage, there is a derivation; and only what follows back references is damaged.
 -- Assumes nothing.
+use Rattle.std.specs.Prelude.{Some}
 use mathlib.Core.Path.{◌≡◌, refl}
 use mathlib.Core.Bool.{Bool, true, false}
 use mathlib.Core.List.{List, [], ◌∷◌}
@@ -9,21 +10,18 @@ use borrow.Author.Tests.{eqb-true, leb-true}
 use lib.Dec.{eqb, leb}
 use lib.ListN.{length}
 use Rattle.parser.specs.Digits.{if-then}
-use Rattle.parser.specs.Bytes.{past}
+use Rattle.parser.specs.Bytes.{past, space_at}
 use Rattle.parser.specs.Number.{integer62, optional62, back_at, hex_at}
 use Rattle.parser.specs.Names.{ident_at}
-use Rattle.parser.specs.declared.number.Num.TheVariants.{Value}
-use Rattle.parser.specs.declared.names.Name.TheVariants.{Parts}
-use Rattle.parser.specs.declared.number.Back.TheVariants.{Target}
-use Rattle.parser.specs.declared.number.Nibbles.TheVariants.{To}
+use Rattle.parser.specs.declared.names.Name.{Name}
 use Rattle.pieces.specs.Basic as basics
 use Rattle.pieces.specs.Piece.{word}
 use Rattle.pieces.specs.Words as W
+use Rattle.pieces.specs.declared.words.Word.{Word}
 use Rattle.pieces.specs.Basic.{is_basic}
 use Rattle.printer.specs.Says.{U, Res, ok, Says, onto, next, ◌>>=◌, ◌then◌, give, emit, on_error, broken, breaks, reader, need, choose, mute, pick}
-use Rattle.printer.specs.Readings.{letter_at, named_at, life_at, head_at, flag_at, scalar_at, literal_at}
-use Rattle.printer.specs.declared.read.Head.TheVariants.{Of as Before}
-use Rattle.printer.specs.declared.read.Literal.TheVariants.{Of as Spelt}
+use Rattle.printer.specs.Readings.{named_at, life_at, head_at, flag_at, scalar_at, literal_at}
+use Rattle.printer.specs.declared.read.Head.{Head}
 use Rattle.printer.specs.declared.kinds.Kind.{Kind}
 use Rattle.printer.specs.declared.kinds.Kind.TheVariants.{Path, Value as InValue, Ty, Const, Expr}
 use Rattle.printer.specs.declared.kinds.Item.{Item}
@@ -35,8 +33,8 @@ use Rattle.demangle.specs.Grammar.{◌!◌, Part, path, type, bare, arg, const, 
 use Rattle.demangle.specs.Grammar.{patterns, traits, fields, each, Follow, check, sound, Bound, Leads, Reads}
 use Rattle.demangle.proofs.RunLaws.{Sound, sure, after, said, map, hush-sound, caught-sound, choose-sound, pick-sound, ◌or◌, else, if-sound, past-sound}
 use Rattle.demangle.proofs.RunLaws.{found, missing}
-use Rattle.demangle.proofs.ReadLaws.{eat-sound, by-tag-sound, or-tag, num-sound, back-sound, letter-sound, flag-sound, name-sound, named-sound}
-use Rattle.demangle.proofs.ReadLaws.{head-sound, literal-sound, hex-sound}
+use Rattle.demangle.proofs.ReadLaws.{eat-sound, by-tag-sound, or-tag, read-sound, name-sound, named-sound}
+use Rattle.demangle.proofs.ReadLaws.{literal-sound, hex-sound}
 
 -- what a run that follows, or does not, asks
 abbrev pub asks : Bool → Follow
@@ -75,27 +73,27 @@ module _ {w : Bool} where
 
 module _ (s : List ℕ) where
   module _ {w : Bool} (f : Bool) (b i : ℕ) where
-    lifetime-sound : Sound w ((g.lifetime s f (g.held b)).run i) (λ _ j. (v : ℕ) × (integer62 s i ≡ Value v j) × Bound (asks f) b v)
+    lifetime-sound : Sound w ((g.lifetime s f (g.held b)).run i) (λ _ j. (v : ℕ) × (integer62 s i ≡ Some (v, j)) × Bound (asks f) b v)
     unfolding g.lifetime need reader
-    lifetime-sound = num-sound i tt (integer62 s i) (g.life_of f (g.held b)) (λ v j e. map (life-of-sound f b v j) (λ _ k q. (v, rw q.0 e, q.1)))
+    lifetime-sound = read-sound i tt (integer62 s i) (g.life_of f (g.held b)) (λ v j e. map (life-of-sound f b v j) (λ _ k q. (v, rw q.0 e, q.1)))
 
-    bound-life-sound : Sound w ((g.bound_life s f (g.held b)).run i) (λ _ j. (v : ℕ) × (integer62 s i ≡ Value v j) × Bound (asks f) b v)
+    bound-life-sound : Sound w ((g.bound_life s f (g.held b)).run i) (λ _ j. (v : ℕ) × (integer62 s i ≡ Some (v, j)) × Bound (asks f) b v)
     unfolding g.bound_life need reader
-    bound-life-sound = num-sound i tt (integer62 s i) (g.end_life f (g.held b)) (λ v j e. map (end-life-sound f b v j) (λ _ k q. (v, rw q.0 e, q.1)))
+    bound-life-sound = read-sound i tt (integer62 s i) (g.end_life f (g.held b)) (λ v j e. map (end-life-sound f b v j) (λ _ k q. (v, rw q.0 e, q.1)))
 
   bound-sound : {w : Bool} (f : Bool) (b i : ℕ)
-      → Sound w ((g.bound s f (g.held b)).run i) (λ _ j. (v : ℕ) × (s ! i ≡ ltr.'L') × (integer62 s (i + 1) ≡ Value v j) × Bound (asks f) b v)
+      → Sound w ((g.bound s f (g.held b)).run i) (λ _ j. (v : ℕ) × (s ! i ≡ ltr.'L') × (integer62 s (i + 1) ≡ Some (v, j)) × Bound (asks f) b v)
   unfolding g.bound broken breaks
   bound-sound f b i = eat-sound s i _ _ (λ e. map (bound-life-sound f b (i + 1)) (λ _ j q. (q.0, e, q.1, q.2))) (λ _. sure tt)
 
   reference-sound : {w : Bool} (m f : Bool) (b i : ℕ)
-      → Sound w ((g.reference s m f (g.held b)).run i) (λ y j. (v : ℕ) × (y ≡ true) × (life_at s i ≡ Value v j) × Bound (asks f) b v)
+      → Sound w ((g.reference s m f (g.held b)).run i) (λ y j. (v : ℕ) × (y ≡ true) × (life_at s i ≡ Some (v, j)) × Bound (asks f) b v)
   unfolding g.reference g.ref_rest need reader emit give ◌then◌ ◌>>=◌ next onto
-  reference-sound m f b i = said (word W.ref ∷ []) (num-sound i false (life_at s i) _ (λ v j e.
+  reference-sound m f b i = said (word W.ref ∷ []) (read-sound i false (life_at s i) _ (λ v j e.
       after _ (ref-life-sound f b v j) (λ _ k q. sure (v, refl, rw q.0 e, q.1))))
 
   -- ---- lists, of elements of a part
-  list-sound : {f : Bool} {n b : ℕ} (q : G.Item) (t : ℕ) (m : Says U) → ((i : ℕ) → Derives s (each q) f n b i (m.run i)) → (k c i : ℕ)
+  list-sound : {f : Bool} {n b : ℕ} (q : G.Item) (t : Word) (m : Says U) → ((i : ℕ) → Derives s (each q) f n b i (m.run i)) → (k c i : ℕ)
       → Derives s (many q) f n b i ((g.list_n s t m k c).run i)
   unfolding g.list_n emit ◌then◌ ◌>>=◌ next
   list-sound q t m h zero c i = sure tt
@@ -110,7 +108,7 @@ module _ (s : List ℕ) where
 
   -- ---- a back reference by its target
   target_sound : {A : Type 0} {q r : Part} {n m : ℕ} (z : A) (a : g.Deep A) → Leads q r n m
-      → ((b i : ℕ) → Derives s r true m b i ((a true (g.held b)).run i)) → (f : Bool) (b i v j : ℕ) → s ! i ≡ ltr.'B' → back_at s (i + 1) ≡ Target v j
+      → ((b i : ℕ) → Derives s r true m b i ((a true (g.held b)).run i)) → (f : Bool) (b i v j : ℕ) → s ! i ≡ ltr.'B' → back_at s (i + 1) ≡ Some (v, j)
       → Derives s q f n b i ((g.target s z a f (g.held b) v).run j)
   unfolding g.target reader
   target_sound z a u h true b i v j e e' = caught-sound ((a true (g.held b)).run v) j (h b v) (λ _ k r. G.followed u e e' r)
@@ -118,23 +116,23 @@ module _ (s : List ℕ) where
 
   -- ---- leaves
   module _ {w : Bool} (tag i : ℕ) where
-    uint-sound : Sound w ((g.uint s tag).run i) (λ _ j. (e : ℕ) × (hex_at s i ≡ To e j))
+    uint-sound : Sound w ((g.uint s tag).run i) (λ _ j. (e : ℕ) × (hex_at s i ≡ Some (e, j)))
     unfolding g.uint need reader emit
     uint-sound = hex-sound i tt s _ (λ x e j q. sure (e, q))
 
   module _ {w : Bool} (tag i : ℕ) where
-    int-sound : Sound w ((g.int s tag).run i) (λ _ j. (e : ℕ) × (hex_at s (past ltr.'n' s i) ≡ To e j))
+    int-sound : Sound w ((g.int s tag).run i) (λ _ j. (e : ℕ) × (hex_at s (past ltr.'n' s i) ≡ Some (e, j)))
     unfolding g.int emit ◌then◌ ◌>>=◌ next
     int-sound = eat-sound s i _ _ (λ e. rw (found s _ i e) (said (word W.minus ∷ []) (uint-sound tag (i + 1)))) (λ o. rw (missing s _ i o) (uint-sound tag i))
 
-  literal-sounds : {w : Bool} (i : ℕ) → Sound w ((g.literal s).run i) (λ _ j. (e : ℕ) × (literal_at s i ≡ Spelt e j))
+  literal-sounds : {w : Bool} (i : ℕ) → Sound w ((g.literal s).run i) (λ _ j. (e : ℕ) × (literal_at s i ≡ Some (e, j)))
   unfolding g.literal need reader emit
   literal-sounds i = literal-sound i tt (literal_at s i) _ (λ e j q. sure (e, q))
 
   head-sounds : {w : Bool} (i : ℕ)
-      → Sound w ((g.sig_head s).run i) (λ y j. (r : g.Abi) × (y ≡ true) × (head_at s i ≡ Before r.is_unsafe r.which r.a r.b j))
+      → Sound w ((g.sig_head s).run i) (λ y j. (h : Head) × (y ≡ true) × (head_at s i ≡ Some (h, j)))
   unfolding g.sig_head need reader emit give ◌then◌ ◌>>=◌ next onto
-  head-sounds i = head-sound i false (head_at s i) _ (λ r j e. sure (r, refl, e))
+  head-sounds i = read-sound i false (head_at s i) _ (λ r j e. sure (r, refl, e))
 
 -- the part that a back reference stands for, and the one it leads to; and what stands in a list
 abbrev back-part : Kind → Part
@@ -171,9 +169,9 @@ pub record Right (s : List ℕ) (n : ℕ) (p : g.Level) : Type 0 where
   consts : (value f : Bool) (b i : ℕ) → Derives s const f n b i ((p.con value f (g.held b)).run i)
   bares : (f : Bool) (b i : ℕ) → Derives s bare f n b i ((p.bare f (g.held b)).run i)
   ors : (f : Bool) (b i : ℕ) → s ! i ≡ ltr.'O' → Derives s pattern f n b i ((p.ors f (g.held b)).run (i + 1))
-  aims : (k : Kind) (f : Bool) (b i v j : ℕ) → s ! i ≡ ltr.'B' → back_at s (i + 1) ≡ Target v j
+  aims : (k : Kind) (f : Bool) (b i v j : ℕ) → s ! i ≡ ltr.'B' → back_at s (i + 1) ≡ Some (v, j)
       → Derives s (back-part k) f (suc n) b i ((p.aim k f (g.held b) v).run j)
-  opens : (f : Bool) (b i v j : ℕ) → s ! i ≡ ltr.'B' → back_at s (i + 1) ≡ Target v j → Derives s trait-path f n b i ((p.open_at f (g.held b) v).run j)
+  opens : (f : Bool) (b i v j : ℕ) → s ! i ≡ ltr.'B' → back_at s (i + 1) ≡ Some (v, j) → Derives s trait-path f n b i ((p.open_at f (g.held b) v).run j)
 
 module _ (s : List ℕ) (n : ℕ) (p : g.Level) (h : Right s n p) where
   -- types and arguments
@@ -206,18 +204,18 @@ module _ (s : List ℕ) (n : ℕ) (p : g.Level) (h : Right s n p) where
       (λ o. said (word W.or ∷ []) (after _ (pat-sound f b i) (λ _ j r. map (alternatives-sound f b k j) (λ _ l w. G.list-more r w))))
 
   -- dyn traits
-  bound-to-sound : (f : Bool) (b i j : ℕ) {x y z : ℕ} → s ! i ≡ ltr.'p' → ident_at s (i + 1) ≡ Parts x y z j
-      → Sound f ((g.bound_to s p f (g.held b)).run j) (λ _ k. (l : ℕ) → Reads s bindings (asks f) n b k l → Reads s bindings (asks f) n b i l)
+  bound-to-sound : (f : Bool) (b i : ℕ) {x : Name} → s ! i ≡ ltr.'p' → ident_at s (i + 1) ≡ Some x
+      → Sound f ((g.bound_to s p f (g.held b)).run x.end) (λ _ k. (l : ℕ) → Reads s bindings (asks f) n b k l → Reads s bindings (asks f) n b i l)
   unfolding g.bound_to
-  bound-to-sound f b i j e e' = eat-sound s j _ _ (λ c. map (h.consts false f b (j + 1)) (λ _ k r l q. G.const-binding e e' c r q))
-      (λ o. map (type-sound f b j) (λ _ k r l q. G.type-binding e e' r q))
+  bound-to-sound f b i {x} e e' = eat-sound s x.end _ _ (λ c. map (h.consts false f b (x.end + 1)) (λ _ k r l q. G.const-binding e e' c r q))
+      (λ o. map (type-sound f b x.end) (λ _ k r l q. G.type-binding e e' r q))
 
   binding-sound : (opened f : Bool) (b i : ℕ) → s ! i ≡ ltr.'p'
       → Sound f ((g.binding s p opened f (g.held b)).run (i + 1))
       (λ y k. (y ≡ true) × ((l : ℕ) → Reads s bindings (asks f) n b k l → Reads s bindings (asks f) n b i l))
   unfolding g.binding g.bound_name need reader emit give ◌then◌ ◌>>=◌ next onto
-  binding-sound opened f b i e = said (word (if-then opened W.comma-blank W.less) ∷ []) (name-sound (i + 1) false (ident_at s (i + 1)) _ (λ r j e'.
-      said (g.ident s r.a r.b r.c r.e ∷ word W.equals ∷ []) (after _ (bound-to-sound f b i j e e') (λ _ k q. sure (refl, q)))))
+  binding-sound opened f b i e = said (word (if-then opened W.comma-blank W.less) ∷ []) (name-sound (i + 1) false (ident_at s (i + 1)) _ (λ x e'.
+      said (g.ident s x ∷ word W.equals ∷ []) (after _ (bound-to-sound f b i e e') (λ _ k q. sure (refl, q)))))
 
   bindings-sound : (k : ℕ) (opened f : Bool) (b i : ℕ) → Derives s bindings f n b i ((g.bindings s p k opened f (g.held b)).run i)
   unfolding g.bindings emit choose ◌>>=◌ next
@@ -227,7 +225,7 @@ module _ (s : List ℕ) (n : ℕ) (p : g.Level) (h : Right s n p) where
       (λ e. after _ (binding-sound opened f b i e) (λ y j q. rw q.0 (map (bindings-sound k true f b j) (λ _ l r. q.1 l r))))
       (λ o. sure (G.no-binding o))
 
-  list-of-sound : {f : Bool} {b : ℕ} (q : G.Item) (t : ℕ) (m : Says U) → ((i : ℕ) → Derives s (each q) f n b i (m.run i)) → (i : ℕ)
+  list-of-sound : {f : Bool} {b : ℕ} (q : G.Item) (t : Word) (m : Says U) → ((i : ℕ) → Derives s (each q) f n b i (m.run i)) → (i : ℕ)
       → Derives s (many q) f n b i ((g.list_of s p t m).run i)
   unfolding g.list_of
   list-of-sound q t m k i = list-sound s q t m k (length s) 0 i
@@ -235,7 +233,7 @@ module _ (s : List ℕ) (n : ℕ) (p : g.Level) (h : Right s n p) where
   open-path-sound : (f : Bool) (b i : ℕ) → Derives s trait-path f n b i ((g.open_path s p f (g.held b)).run i)
   unfolding g.open_path g.open_back g.open_generic g.shut_path need reader emit give ◌then◌ ◌>>=◌ next onto ltr.any_of
   open-path-sound f b i = rw (or-tag s false _ i (g.shut_path s p f (g.held b)).run tt) (pick-sound _ i _ _ _
-      ((λ e. back-sound (i + 1) false (back_at s (i + 1)) _ (λ v j e'. h.opens f b i v j e e'))
+      ((λ e. read-sound (i + 1) false (back_at s (i + 1)) _ (λ v j e'. h.opens f b i v j e e'))
       or (λ e. after _ (h.paths false f b (i + 1)) (λ _ j r.
       said (word W.less ∷ []) (after _ (list-of-sound args _ _ (arg-sound f b) j) (λ _ k q. sure (G.generic-trait e r q)))))
       or else)
@@ -248,7 +246,7 @@ module _ (s : List ℕ) (n : ℕ) (p : g.Level) (h : Right s n p) where
   -- lists and what stands in them
   field-sound : (f : Bool) (b i : ℕ) → Derives s field f n b i ((g.field s p f (g.held b)).run i)
   unfolding g.field need reader emit ◌then◌ ◌>>=◌ next
-  field-sound f b i = named-sound i tt (named_at s i) _ (λ r j e. said (g.ident s r.a r.b r.c r.e ∷ word W.field ∷ []) (map (h.consts true f b j) (λ _ k q. G.field-const e q)))
+  field-sound f b i = named-sound i tt (named_at s i) _ (λ d x e. said (g.ident s x ∷ word W.field ∷ []) (map (h.consts true f b x.end) (λ _ k q. G.field-const e q)))
 
   element-sound : (k : Item) (f : Bool) (b i : ℕ) → Derives s (each (item k)) f n b i ((g.element s p k f (g.held b)).run i)
   unfolding g.element
@@ -266,13 +264,13 @@ module _ (s : List ℕ) (n : ℕ) (p : g.Level) (h : Right s n p) where
   unfolding g.tuple emit ◌then◌ ◌>>=◌ next
   tuple-sound k f b i = said (word W.paren ∷ []) (after _ (items-sound k f b i) (λ c j r. sure r))
 
-  between-sound : (from : ℕ) (k : Item) (to : ℕ) (f : Bool) (b i : ℕ) → Derives s (many (item k)) f n b i ((g.between s p from k to f (g.held b)).run i)
+  between-sound : (from : Word) (k : Item) (to : Word) (f : Bool) (b i : ℕ) → Derives s (many (item k)) f n b i ((g.between s p from k to f (g.held b)).run i)
   unfolding g.between emit ◌then◌ ◌>>=◌ next
   between-sound from k to f b i = said (word from ∷ []) (after _ (items-sound k f b i) (λ c j r. sure r))
 
   -- the types by their tags
   refer-sound : (m f : Bool) (b i : ℕ) → Sound f ((g.refer s p m f (g.held b)).run i)
-      (λ _ k. (v j : ℕ) × (life_at s i ≡ Value v j) × Bound (asks f) b v × Reads s type (asks f) n b j k)
+      (λ _ k. (v j : ℕ) × (life_at s i ≡ Some (v, j)) × Bound (asks f) b v × Reads s type (asks f) n b j k)
   unfolding g.refer choose ◌>>=◌ next
   refer-sound m f b i = after _ (reference-sound s m f b i) (λ y j q. rw q.1 (map (type-sound f b j) (λ _ k r. (q.0, j, q.2, q.3, r))))
 
@@ -289,7 +287,7 @@ module _ (s : List ℕ) (n : ℕ) (p : g.Level) (h : Right s n p) where
   result-sound f b i = eat-sound s i _ _ (λ e. sure (G.plain_type (G.basic-type (rw e tt)))) (λ o. said (word W.arrow ∷ []) (type-sound f b i))
 
   signature-sound : (f : Bool) (b i : ℕ) → Sound f ((g.signature s p f (g.held b)).run i)
-      (λ _ l. (r : g.Abi) × (j k : ℕ) × (head_at s i ≡ Before r.is_unsafe r.which r.a r.b j)
+      (λ _ l. (h : Head) × (j k : ℕ) × (head_at s i ≡ Some (h, j))
       × Reads s (many types) (asks f) n b j k × Reads s type (asks f) n b k l)
   unfolding g.signature g.parameters emit choose ◌then◌ ◌>>=◌ next
   signature-sound f b i = after _ (head-sounds s i) (λ y j q. rw q.1 (after _ (items-sound AType f b j) (λ _ k r.
@@ -297,13 +295,13 @@ module _ (s : List ℕ) (n : ℕ) (p : g.Level) (h : Right s n p) where
 
   function-sound : (f : Bool) (b i : ℕ) → s ! i ≡ ltr.'F' → Derives s bare f (suc n) b i ((g.function s p f (g.held b)).run (i + 1))
   unfolding g.function need reader emit ◌then◌ ◌>>=◌ next
-  function-sound f b i e = num-sound (i + 1) tt (optional62 ltr.'G' s (i + 1)) _ (λ m j e'.
+  function-sound f b i e = read-sound (i + 1) tt (optional62 ltr.'G' s (i + 1)) _ (λ m j e'.
       rw (held-sum b m) (said _ (map (signature-sound f (b + m) j) (λ _ l q. G.fn-type e e' q.3 q.4 q.5))))
 
   traits-sound : (f : Bool) (b i : ℕ) → Sound f ((g.traits s p f (g.held b)).run i)
-      (λ _ k. (m j : ℕ) × (optional62 ltr.'G' s i ≡ Value m j) × Reads s (many traits) (asks f) n (b + m) j k)
+      (λ _ k. (m j : ℕ) × (optional62 ltr.'G' s i ≡ Some (m, j)) × Reads s (many traits) (asks f) n (b + m) j k)
   unfolding g.traits need reader emit ◌then◌ ◌>>=◌ next
-  traits-sound f b i = num-sound i tt (optional62 ltr.'G' s i) _ (λ m j e.
+  traits-sound f b i = read-sound i tt (optional62 ltr.'G' s i) _ (λ m j e.
       rw (held-sum b m) (said _ (after _ (items-sound Trait f (b + m) j) (λ _ k r. sure (m, j, e, r)))))
 
   object-sound : (f : Bool) (b i : ℕ) → s ! i ≡ ltr.'D' → Derives s bare f (suc n) b i ((g.object s p f (g.held b)).run (i + 1))
@@ -313,7 +311,7 @@ module _ (s : List ℕ) (n : ℕ) (p : g.Level) (h : Right s n p) where
 
   back-sounds : (k : Kind) (f : Bool) (b i : ℕ) → s ! i ≡ ltr.'B' → Derives s (back-part k) f (suc n) b i ((g.back s p k f (g.held b)).run (i + 1))
   unfolding g.back need reader
-  back-sounds k f b i e = back-sound (i + 1) tt (back_at s (i + 1)) _ (λ v j e'. h.aims k f b i v j e e')
+  back-sounds k f b i e = read-sound (i + 1) tt (back_at s (i + 1)) _ (λ v j e'. h.aims k f b i v j e e')
 
   typed-sound : (f : Bool) (b i : ℕ) → Derives s bare f (suc n) b i (pick (s ! i) (g.type_tags s p f (g.held b)) (p.path false f (g.held b)).run i (i + 1))
   unfolding g.type_tags g.pointer g.patterned ltr.any_of emit ◌then◌ ◌>>=◌ next
@@ -338,7 +336,7 @@ module _ (s : List ℕ) (n : ℕ) (p : g.Level) (h : Right s n p) where
   unfolding g.braced_by emit ◌then◌ ◌>>=◌ next
   braced-sound tag value f b i k = said _ (after _ k (λ _ j q. sure q))
 
-  string-sound : (f : Bool) (b i : ℕ) → Sound f ((g.body_by s p ltr.'e' f (g.held b)).run i) (λ _ j. (e : ℕ) × (literal_at s i ≡ Spelt e j))
+  string-sound : (f : Bool) (b i : ℕ) → Sound f ((g.body_by s p ltr.'e' f (g.held b)).run i) (λ _ j. (e : ℕ) × (literal_at s i ≡ Some (e, j)))
   unfolding g.body_by g.unsized_literal choose emit ◌then◌ ◌>>=◌ next
   string-sound f b i = said (word W.star ∷ []) (literal-sounds s i)
 
@@ -359,7 +357,7 @@ module _ (s : List ℕ) (n : ℕ) (p : g.Level) (h : Right s n p) where
   ref-const-sound value f b i e = eat-sound s (i + 1) _ _ (λ e'. map (literal-sounds s (i + 1 + 1)) (λ _ j q. G.string-ref-const e e' q.1))
       (λ o. map (braced-sound ltr.'R' value f b (i + 1) (refer-to-sound false f b (i + 1))) (λ _ j r. G.ref-const e o r))
 
-  fields-sound : (from : ℕ) (k : Item) (to : ℕ) (value f : Bool) (b i : ℕ)
+  fields-sound : (from : Word) (k : Item) (to : Word) (value f : Bool) (b i : ℕ)
       → Derives s (many (item k)) f n b i ((g.fields s p from k to value f (g.held b)).run i)
   unfolding g.fields emit ◌then◌ ◌>>=◌ next
   fields-sound from k to value f b i = after _ (between-sound from k to f b i) (λ _ j r. sure r)
@@ -387,8 +385,8 @@ module _ (s : List ℕ) (n : ℕ) (p : g.Level) (h : Right s n p) where
   unfolding g.const_tags g.boolean g.character g.body_by choose need reader emit ◌then◌ ◌>>=◌ next
   const-sound value f b i = by-tag-sound s tt _ i (g.integer s) (pick-sound _ i _ _ _
       ((λ e. sure (G.placeholder e))
-      or (λ e. flag-sound (i + 1) tt (flag_at s (i + 1)) _ (λ u j q. sure (G.bool-const e q)))
-      or (λ e. num-sound (i + 1) tt (scalar_at s (i + 1)) _ (λ v j q. sure (G.char-const e q)))
+      or (λ e. read-sound (i + 1) tt (flag_at s (i + 1)) _ (λ u j q. sure (G.bool-const e q)))
+      or (λ e. read-sound (i + 1) tt (scalar_at s (i + 1)) _ (λ v j q. sure (G.char-const e q)))
       or (λ e. map (braced-sound ltr.'e' value f b (i + 1) (string-sound f b (i + 1))) (λ _ j q. G.string-const e q.1))
       or (λ e. ref-const-sound value f b i e)
       or (λ e. map (braced-sound ltr.'Q' value f b (i + 1) (refer-to-sound true f b (i + 1))) (λ _ j r. G.mut-ref-const e r))
@@ -417,12 +415,12 @@ module _ (s : List ℕ) (n : ℕ) (p : g.Level) (h : Right s n p) where
   path-sound : (value f : Bool) (b i : ℕ) → Derives s path f (suc n) b i (((g.above s p).path value f (g.held b)).run i)
   unfolding g.path_tags g.krate g.nest g.nested g.imp g.generic mute on_error need reader emit ◌then◌ ◌>>=◌ next
   path-sound value f b i = by-tag-sound s tt _ i g.unknown (pick-sound _ i _ _ _
-      ((λ e. named-sound (i + 1) tt (named_at s (i + 1)) _ (λ r j q. sure (G.crate-root e q)))
-      or (λ e. letter-sound (i + 1) tt (letter_at s (i + 1)) _ (λ c j e'. after _ (h.paths value f b j) (λ _ k r.
-      said [] (named-sound k tt (named_at s k) _ (λ x l q. sure (G.nested-path e e' r q))))))
-      or (λ e. num-sound (i + 1) tt (optional62 ltr.'s' s (i + 1)) _ (λ d j e'. after _ (hush-sound (h.paths false false b j)) (λ _ k r.
+      ((λ e. named-sound (i + 1) tt (named_at s (i + 1)) _ (λ d x q. sure (G.crate-root e q)))
+      or (λ e. read-sound (i + 1) tt (space_at s (i + 1)) _ (λ c j e'. after _ (h.paths value f b j) (λ _ k r.
+      said [] (named-sound k tt (named_at s k) _ (λ d x q. sure (G.nested-path e e' r q))))))
+      or (λ e. read-sound (i + 1) tt (optional62 ltr.'s' s (i + 1)) _ (λ d j e'. after _ (hush-sound (h.paths false false b j)) (λ _ k r.
       map (self-sound f b k) (λ _ l q. G.inherent-impl e e' r q))))
-      or (λ e. num-sound (i + 1) tt (optional62 ltr.'s' s (i + 1)) _ (λ d j e'. after _ (hush-sound (h.paths false false b j)) (λ _ k r.
+      or (λ e. read-sound (i + 1) tt (optional62 ltr.'s' s (i + 1)) _ (λ d j e'. after _ (hush-sound (h.paths false false b j)) (λ _ k r.
       map (as-sound f b k) (λ _ l q. G.trait-impl e e' r q.1 q.2))))
       or (λ e. map (as-sound f b (i + 1)) (λ _ k q. G.trait-definition e q.1 q.2))
       or (λ e. after _ (h.paths value f b (i + 1)) (λ _ j r. said (word (if-then value W.value-less W.less) ∷ []) (after _ (items-sound Arg f b j) (λ _ k q. sure (G.generic-args e r q)))))

@@ -1,13 +1,12 @@
 -- What the answers mean, without the printer: which symbols have derivations. Assumes nothing: these are definitions.
-use Rattle.std.specs.Prelude.{◌≡◌, true, false, List, ℕ, ◌≤◌, length, drop, get_or}
+use Rattle.std.specs.Prelude.{Some, ◌≡◌, true, false, List, ℕ, ◌≤◌, length, drop, get_or}
 use Rattle.demangle.specs.Accept.{most, levels, prefix_of, is_upper, all_ascii}
 use Rattle.demangle.specs.Grammar.{path, check, sound, Reads}
 
 -- a symbol that may be read: not too long, with a prefix of k bytes, an upper-case letter behind it, and ASCII from there on
 pub record Ready (s : List ℕ) (k : ℕ) : Type 0 where
   pub short : length s ≤ most
-  pub prefix : prefix_of s ≡ k
-  pub some : k ≡ 0 → ⊥
+  pub prefix : prefix_of s ≡ Some k
   pub letter : is_upper (get_or (drop k s) 0 0) ≡ true
   pub ascii : all_ascii (drop k s) ≡ true
 

@@ -3,40 +3,30 @@ ghost use Rattle.std.specs.Prelude.{◌≡◌};
 ghost use Rattle.demangle.specs.Rows.{check_number, number_of, suffix_from};
 ghost use Rattle.demangle.specs.Part.{TailOf};
 
-use crate::judge::{Verdict, judge};
+use crate::judge::judge;
+use crate::refusal::Refusal;
 
-#[derive(Drop)]
-pub enum Checked {
-    Done,
-    Invalid,
-    RecursedTooDeep,
-    TooLong,
-}
-
-pub fn check(symbol: &[u8]) -> Checked
+#[tactic(auto, using(crate::proofs::RowLaws::check_laws))]
+pub fn check(symbol: &[u8]) -> Result<(), Refusal>
     ensures { check_number result ≡ number_of symbol.now }
 {
-    match judge(symbol) {
-        Verdict::Accepted(_, _) => Checked::Done,
-        Verdict::Invalid => Checked::Invalid,
-        Verdict::RecursedTooDeep => Checked::RecursedTooDeep,
-        Verdict::TooLong => Checked::TooLong,
-    }
+    judge(symbol)?;
+    Ok(())
 }
 
 // Where the suffix starts: behind what was read, or with a refusal at the symbol's end.
+#[tactic(auto, using(crate::proofs::RowLaws::start_laws))]
 pub fn start(symbol: &[u8]) -> usize
     ensures { result ≡ suffix_from symbol.now }
 {
     match judge(symbol) {
-        Verdict::Accepted(k, place) => k + place,
-        Verdict::Invalid => symbol.len(),
-        Verdict::RecursedTooDeep => symbol.len(),
-        Verdict::TooLong => symbol.len(),
+        Ok((k, place)) => k + place,
+        Err(_) => symbol.len(),
     }
 }
 
 // The suffix: a part of the caller's own bytes.
+#[tactic(auto, using(crate::proofs::RowLaws::suffix_laws))]
 pub fn suffix(symbol: &[u8]) -> &[u8]
     ensures { TailOf symbol.entry (suffix_from symbol.now) result }
 {

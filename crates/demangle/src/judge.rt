@@ -1,151 +1,93 @@
 // Which symbols are accepted: length, prefix, first byte, ASCII, first path, second path, in this order.
 ghost use Rattle.std.specs.Prelude.{◌≡◌};
-ghost use Rattle.demangle.specs.Accept.{prefix_of, is_upper, all_ascii, path_at, second_at, behind_at, reading_of, verdict_by, verdict_of};
+ghost use Rattle.demangle.specs.Accept.{prefix_of, all_ascii, path_at, second_at, reading_of, verdict_of};
 
+use crate::refusal::Refusal;
 use parser::bytes::peek;
+use printer::state::{Printer, Status};
 
 // How many bytes a symbol may have, and how many levels a reading may count.
 const MOST: usize = 4096;
 
 pub const LEVELS: usize = 500;
 
-// How far a reading came: a place behind the prefix, or its error.
-#[derive(Drop)]
-pub enum Reached {
-    At(usize),
-    Invalid,
-    RecursedTooDeep,
-}
-
-// A symbol's prefix has so many bytes, and its reading ended so many behind it; or the refusal.
-#[derive(Drop)]
-pub enum Verdict {
-    Accepted(usize, usize),
-    Invalid,
-    RecursedTooDeep,
-    TooLong,
-}
-
-// The length of `R`, `_R` or `__R`; 0 for none.
-fn prefix(symbol: &[u8]) -> usize
+// The length of `R`, `_R` or `__R`.
+#[tactic(auto, using(crate::proofs::PrefixLaws::prefix_laws))]
+fn prefix(symbol: &[u8]) -> Option<usize>
     ensures { result ≡ prefix_of symbol.now }
 {
-    let a = peek(symbol, 0);
-    if a == b'R' {
-        return 1;
+    if symbol.starts_with(b"R") {
+        return Some(1);
     }
-    if a != b'_' {
-        return 0;
+    if symbol.starts_with(b"_R") {
+        return Some(2);
     }
-    let b = peek(symbol, 1);
-    if b == b'R' {
-        return 2;
+    if symbol.starts_with(b"__R") {
+        return Some(3);
     }
-    if b != b'_' {
-        return 0;
-    }
-    let c = peek(symbol, 2);
-    if c == b'R' {
-        return 3;
-    }
-    0
+    None
 }
 
-fn upper(b: u8) -> bool
-    ensures { result ≡ is_upper b }
-{
-    if b < b'A' {
-        return false;
-    }
-    b <= b'Z'
-}
-
-// No early way out: so the compiler takes many bytes at a time.
+// In the definition's words.
+#[tactic(auto, using(crate::proofs::PrefixLaws::ascii_is))]
 fn ascii(s: &[u8]) -> bool
     ensures { result ≡ all_ascii s.now }
 {
-    let mut i = 0;
-    let mut top: u8 = 0;
-    while i < s.len() {
-        if s[i] > top {
-            top = s[i];
-        }
-        i += 1;
-    }
-    top < 128
+    s.is_ascii()
 }
 
-// A path read from a place, with nothing printed.
-fn path(s: &[u8], place: usize) -> Reached
+// A path read from a place, with nothing printed: how far it came.
+#[tactic(auto, using(crate::proofs::JudgeLaws::path_laws))]
+fn path(s: &[u8], place: usize) -> Result<usize, Refusal>
     ensures { result ≡ path_at s.now place }
 {
     let mut none = [0u8; 1];
-    let mut st = [place, 0, 0, 0];
-    printer::cycle::path(s, &mut none, &mut st, false, LEVELS, 0, 0);
-    let error = st[1];
-    if error == 0 {
-        return Reached::At(st[0]);
+    let mut p = Printer::new(&mut none, place);
+    p.path(s, false, LEVELS, 0, None);
+    match p.st.status {
+        Status::Going => Ok(p.st.place),
+        Status::Invalid => Err(Refusal::Invalid),
+        _ => Err(Refusal::RecursedTooDeep),
     }
-    if error == 1 {
-        return Reached::Invalid;
-    }
-    Reached::RecursedTooDeep
 }
 
 // Behind the first path: a second one, where an upper-case letter stands there.
-fn second(s: &[u8], place: usize) -> Reached
+#[tactic(auto, using(crate::proofs::JudgeLaws::second_laws))]
+fn second(s: &[u8], place: usize) -> Result<usize, Refusal>
     ensures { result ≡ second_at s.now place }
 {
     let c = peek(s, place);
-    if !upper(c) {
-        return Reached::At(place);
+    if !c.is_ascii_uppercase() {
+        return Ok(place);
     }
     path(s, place)
 }
 
-fn behind(s: &[u8], first: Reached) -> Reached
-    ensures { result ≡ behind_at s.now first }
-{
-    match first {
-        Reached::At(place) => second(s, place),
-        Reached::Invalid => Reached::Invalid,
-        Reached::RecursedTooDeep => Reached::RecursedTooDeep,
-    }
-}
-
 // What stands behind the prefix, read to its end.
-fn reading(s: &[u8]) -> Reached
+#[tactic(auto, using(crate::proofs::JudgeLaws::reading_laws))]
+fn reading(s: &[u8]) -> Result<usize, Refusal>
     ensures { result ≡ reading_of s.now }
 {
     let b = peek(s, 0);
-    if !upper(b) {
-        return Reached::Invalid;
+    if !b.is_ascii_uppercase() {
+        return Err(Refusal::Invalid);
     }
     if !ascii(s) {
-        return Reached::Invalid;
+        return Err(Refusal::Invalid);
     }
-    behind(s, path(s, 0))
+    second(s, path(s, 0)?)
 }
 
-fn judged(k: usize, reached: Reached) -> Verdict
-    ensures { result ≡ verdict_by k reached }
-{
-    match reached {
-        Reached::At(place) => Verdict::Accepted(k, place),
-        Reached::Invalid => Verdict::Invalid,
-        Reached::RecursedTooDeep => Verdict::RecursedTooDeep,
-    }
-}
-
-pub fn judge(symbol: &[u8]) -> Verdict
+// How many bytes a symbol's prefix has, and how many were read behind it.
+#[tactic(auto, using(crate::proofs::JudgeLaws::judge_laws))]
+pub fn judge(symbol: &[u8]) -> Result<(usize, usize), Refusal>
     ensures { result ≡ verdict_of symbol.now }
 {
     if symbol.len() > MOST {
-        return Verdict::TooLong;
+        return Err(Refusal::TooLong);
     }
-    let k = prefix(symbol);
-    if k == 0 {
-        return Verdict::Invalid;
-    }
-    judged(k, reading(&symbol[k..]))
+    let Some(k) = prefix(symbol) else {
+        return Err(Refusal::Invalid);
+    };
+    Ok((k, reading(&symbol[k..])?))
 }

@@ -5,3 +5,4 @@
 pub mod check;
 pub mod judge;
 pub mod print;
+pub mod refusal;

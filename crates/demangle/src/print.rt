@@ -1,58 +1,44 @@
 // A symbol's name, laid into a lent buffer.
 ghost use Rattle.std.specs.Prelude.{◌≡◌};
-ghost use Rattle.demangle.specs.Rows.{mode_of, answer, shown, row_of};
+ghost use Rattle.demangle.specs.Rows.{answer, shown, row_of};
 
-use crate::judge::{LEVELS, Verdict, judge};
+use crate::judge::{LEVELS, judge};
+use crate::refusal::Refusal;
+pub use pieces::mode::Mode;
+use printer::state::{Printer, Status};
 
-// Short leaves the crates' numbers and the integers' types out.
-#[derive(Clone, Copy)]
-pub enum Mode {
-    Plain,
-    Short,
-}
-
-// The text's length and whether it is whole, or else damaged; or the refusal.
-#[derive(Drop)]
-pub enum Printed {
-    Done(usize, bool),
-    Invalid,
-    RecursedTooDeep,
-    TooLong,
-    NoRoom,
-}
-
-fn number(mode: Mode) -> u8
-    ensures { result ≡ mode_of mode }
-{
-    match mode {
-        Mode::Plain => 1,
-        Mode::Short => 2,
-    }
+// What was laid: how long it is, and whether it is whole, or else damaged. A length and no slice: the caller's buffer is its own again.
+#[derive(Clone, Copy, Debug, PartialEq, Eq)]
+pub struct Printed {
+    pub length: usize,
+    pub whole: bool,
 }
 
 // The first path's text.
 #[tactic(auto, using(crate::proofs::RowLaws::text_laws))]
-fn text(s: &[u8], mode: Mode, out: &mut [u8]) -> Printed
+fn text(s: &[u8], mode: Mode, out: &mut [u8]) -> Result<Printed, Refusal>
     ensures { answer result out.new ≡ shown mode s.now out.old }
 {
-    let mut st = [0usize, 0, 0, 0];
-    printer::cycle::path(s, out, &mut st, true, LEVELS, 0, number(mode));
-    if st[1] == 3 {
-        return Printed::NoRoom;
+    let mut p = Printer::new(out, 0);
+    p.path(s, true, LEVELS, 0, Some(mode));
+    let length = p.st.written;
+    match p.st.status {
+        Status::Full => Err(Refusal::NoRoom),
+        Status::Going => Ok(Printed {
+            length,
+            whole: !p.st.damaged,
+        }),
+        _ => Ok(Printed {
+            length,
+            whole: false,
+        }),
     }
-    if st[1] != 0 {
-        return Printed::Done(st[3], false);
-    }
-    Printed::Done(st[3], st[2] == 0)
 }
 
-pub fn print(symbol: &[u8], mode: Mode, out: &mut [u8]) -> Printed
+#[tactic(auto, using(crate::proofs::RowLaws::print_laws))]
+pub fn print(symbol: &[u8], mode: Mode, out: &mut [u8]) -> Result<Printed, Refusal>
     ensures { answer result out.new ≡ row_of mode symbol.now out.old }
 {
-    match judge(symbol) {
-        Verdict::Accepted(k, _) => text(&symbol[k..], mode, out),
-        Verdict::Invalid => Printed::Invalid,
-        Verdict::RecursedTooDeep => Printed::RecursedTooDeep,
-        Verdict::TooLong => Printed::TooLong,
-    }
+    let (k, _) = judge(symbol)?;
+    text(&symbol[k..], mode, out)
 }

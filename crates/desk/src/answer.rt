@@ -2,119 +2,53 @@
 use crate::column;
 use demangle::check::suffix;
 use demangle::print::{Mode, Printed, print};
-use lines::input::{Held, front};
-use lines::output::{put, put_byte};
-use parser::bytes::peek;
+use demangle::refusal::Refusal;
+use std::io;
 use std::io::Write;
 
-// How much is shown of a line that is longer than the line buffer.
+// How much is shown of a line that is longer than there is room for.
 const SHOWN: usize = 64;
 
-// A last line with no line end is a line, unless nothing stands there.
-pub fn unended(
-    line: &[u8],
-    h: Held,
-    mode: Mode,
-    room: &mut [u8],
-    to: &mut impl Write,
-    out: &mut [u8],
-    used: usize,
-) -> usize {
-    if h.count == 0 {
-        return used;
-    }
-    self::line(line, h, mode, room, to, out, used)
-}
-
+// A line, or the start of one that is longer than there is room for.
 pub fn line(
-    line: &[u8],
-    h: Held,
+    line: Result<&[u8], &[u8]>,
     mode: Mode,
     room: &mut [u8],
-    to: &mut impl Write,
-    out: &mut [u8],
-    used: usize,
-) -> usize {
-    if h.long {
-        return longer(line, to, out, used);
+    out: &mut impl Write,
+) -> io::Result<()> {
+    match line {
+        // In a file from Windows a carriage return belongs to the line's end.
+        Ok(s) => symbol(s.strip_suffix(b"\r").unwrap_or(s), mode, room, out)?,
+        Err(start) => longer(start, out)?,
     }
-    symbol(
-        before_return(front(line, h.count)),
-        mode,
-        room,
-        to,
-        out,
-        used,
-    )
+    out.write_all(b"\n")
 }
 
-// A line without the carriage return at its end: in a file from Windows it belongs to the line's end.
-fn before_return(line: &[u8]) -> &[u8] {
-    let n = line.len();
-    if n == 0 {
-        return line;
-    }
-    if peek(line, n - 1) != b'\r' {
-        return line;
-    }
-    front(line, n - 1)
+// There is room for more bytes than any symbol may have.
+fn longer(start: &[u8], out: &mut impl Write) -> io::Result<()> {
+    refused(Refusal::TooLong, out)?;
+    out.write_all(b"(no suffix)\t(first 64 bytes of a longer line) ")?;
+    column::bytes(start.get(..SHOWN).unwrap_or(start), "(none)", out)
 }
 
-// The line buffer takes more bytes than any symbol may have.
-fn longer(line: &[u8], to: &mut impl Write, out: &mut [u8], used: usize) -> usize {
-    let a = refused(to, out, used, b"TooLong");
-    let b = put(
-        to,
-        out,
-        a,
-        b"(no suffix)\t(first 64 bytes of a longer line) ",
-    );
-    let c = column::bytes(to, out, b, front(line, SHOWN), b"(none)");
-    put_byte(to, out, c, b'\n')
-}
-
-fn symbol(
-    s: &[u8],
-    mode: Mode,
-    room: &mut [u8],
-    to: &mut impl Write,
-    out: &mut [u8],
-    used: usize,
-) -> usize {
-    let p = print(s, mode, room);
-    let a = name(p, room, to, out, used);
-    let b = column::bytes(to, out, a, suffix(s), b"(no suffix)");
-    let c = put_byte(to, out, b, b'\t');
-    let d = column::bytes(to, out, c, s, b"(empty line)");
-    put_byte(to, out, d, b'\n')
+fn symbol(s: &[u8], mode: Mode, room: &mut [u8], out: &mut impl Write) -> io::Result<()> {
+    match print(s, mode, room) {
+        Ok(Printed { length, whole }) => accepted(room.get(..length).unwrap_or(room), whole, out)?,
+        // The buffer holds the first part of a name at most, which may be another item's name.
+        Err(refusal) => refused(refusal, out)?,
+    }
+    column::bytes(suffix(s), "(no suffix)", out)?;
+    out.write_all(b"\t")?;
+    column::bytes(s, "(empty line)", out)
 }
 
 // The first two columns.
-fn name(p: Printed, room: &[u8], to: &mut impl Write, out: &mut [u8], used: usize) -> usize {
-    match p {
-        Printed::Done(n, whole) => accepted(to, out, used, whole, front(room, n)),
-        Printed::Invalid => refused(to, out, used, b"Invalid"),
-        Printed::RecursedTooDeep => refused(to, out, used, b"RecursedTooDeep"),
-        Printed::TooLong => refused(to, out, used, b"TooLong"),
-        // The buffer holds the first part of a name, which may be another item's name.
-        Printed::NoRoom => refused(to, out, used, b"NoRoom"),
-    }
+fn accepted(text: &[u8], whole: bool, out: &mut impl Write) -> io::Result<()> {
+    out.write_all(if whole { b"whole\t" } else { b"damaged\t" })?;
+    column::text(text, "(empty name)", out)?;
+    out.write_all(b"\t")
 }
 
-fn state(to: &mut impl Write, out: &mut [u8], used: usize, whole: bool) -> usize {
-    if whole {
-        return put(to, out, used, b"whole\t");
-    }
-    put(to, out, used, b"damaged\t")
-}
-
-fn accepted(to: &mut impl Write, out: &mut [u8], used: usize, whole: bool, text: &[u8]) -> usize {
-    let a = state(to, out, used, whole);
-    let b = column::text(to, out, a, text, b"(empty name)");
-    put_byte(to, out, b, b'\t')
-}
-
-fn refused(to: &mut impl Write, out: &mut [u8], used: usize, reason: &[u8]) -> usize {
-    let a = put(to, out, used, reason);
-    put(to, out, a, b"\t(no name)\t")
+fn refused(refusal: Refusal, out: &mut impl Write) -> io::Result<()> {
+    write!(out, "{refusal}\t(no name)\t")
 }

@@ -1,66 +1,53 @@
 // A column's content, written so that a line stays a line, nothing looks blank, and no content looks like words of ours. Words of ours
 // start with `(`, and content never does.
-use crate::chars;
-use lines::output::{put, put_byte, put_hex_byte};
+use crate::chars::is_seen;
+use std::io;
 use std::io::Write;
 
 // Printed text: letters of every script stay readable.
-pub fn text(to: &mut impl Write, out: &mut [u8], used: usize, s: &[u8], words: &[u8]) -> usize {
-    content(to, out, used, s, true, words)
+pub fn text(s: &[u8], words: &str, out: &mut impl Write) -> io::Result<()> {
+    content(s, is_seen, words, out)
 }
 
 // Bytes of no known script: those from 0x80 up are shown by their numbers.
-pub fn bytes(to: &mut impl Write, out: &mut [u8], used: usize, s: &[u8], words: &[u8]) -> usize {
-    content(to, out, used, s, false, words)
+pub fn bytes(s: &[u8], words: &str, out: &mut impl Write) -> io::Result<()> {
+    content(s, |c| c.is_ascii() && is_seen(c), words, out)
 }
 
-// The words stand where there is no content.
-fn content(
-    to: &mut impl Write,
-    out: &mut [u8],
-    used: usize,
+// The words stand where there is no content. Else it is written with each byte escaped that is not part of a character that is shown, with
+// a `(` at the start, which starts words of ours, and with a blank at the start or the end, which nobody sees.
+fn content<F: Fn(char) -> bool>(
     s: &[u8],
-    letters: bool,
-    words: &[u8],
-) -> usize {
-    if s.len() == 0 {
-        return put(to, out, used, words);
+    shown: F,
+    words: &str,
+    out: &mut impl Write,
+) -> io::Result<()>
+    requires { F.IsAlwaysCallable shown }
+{
+    if s.is_empty() {
+        return out.write_all(words.as_bytes());
     }
-    escaped(to, out, used, s, letters)
+    let (first, s) = s.split_at(usize::from(matches!(s, [b'(' | b' ', ..])));
+    let (s, last) = s.split_at(s.len() - usize::from(matches!(s, [.., b' '])));
+    numbers(first, out)?;
+    for chunk in s.utf8_chunks() {
+        for c in chunk.valid().chars() {
+            let mut room = [0; 4];
+            let bytes = c.encode_utf8(&mut room).as_bytes();
+            match c {
+                '\\' => out.write_all(b"\\\\")?,
+                c if shown(c) => out.write_all(bytes)?,
+                _ => numbers(bytes, out)?,
+            }
+        }
+        numbers(chunk.invalid(), out)?;
+    }
+    numbers(last, out)
 }
 
-// `kept` counts the bytes from here on that are one character and are shown as they are.
-fn escaped(to: &mut impl Write, out: &mut [u8], used: usize, s: &[u8], letters: bool) -> usize {
-    let mut k = used;
-    let mut kept = 0;
-    for (i, b) in s.iter().enumerate() {
-        kept = still_kept(kept, s, i, letters);
-        k = shown(to, out, k, *b, kept > 0);
+fn numbers(bytes: &[u8], out: &mut impl Write) -> io::Result<()> {
+    for b in bytes {
+        write!(out, "\\x{b:02x}")?;
     }
-    k
-}
-
-fn still_kept(kept: usize, s: &[u8], at: usize, letters: bool) -> usize {
-    if kept > 1 {
-        return kept - 1;
-    }
-    if chars::plain(s, at) {
-        return 1;
-    }
-    if letters {
-        return chars::letter(s, at);
-    }
-    0
-}
-
-fn shown(to: &mut impl Write, out: &mut [u8], used: usize, b: u8, as_it_is: bool) -> usize {
-    if as_it_is {
-        return put_byte(to, out, used, b);
-    }
-    let k = put_byte(to, out, used, b'\\');
-    if b == b'\\' {
-        return put_byte(to, out, k, b);
-    }
-    let x = put_byte(to, out, k, b'x');
-    put_hex_byte(to, out, x, b)
+    Ok(())
 }

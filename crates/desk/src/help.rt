@@ -1,20 +1,6 @@
 // What `--help` writes. The script `desk` shows it from here where nothing is built yet: all that stands between quotes, which it does
 // not contain.
-use lines::output::put;
-use std::io::Write;
-
-pub fn text(to: &mut impl Write, out: &mut [u8]) -> usize {
-    let a = answers(to, out, 0);
-    let b = columns(to, out, a);
-    rules(to, out, b)
-}
-
-fn answers(to: &mut impl Write, out: &mut [u8], used: usize) -> usize {
-    put(
-        to,
-        out,
-        used,
-        b"usage: desk [--short] < SYMBOLS
+pub const TEXT: &[u8] = b"usage: desk [--short] < SYMBOLS
        desk --help
 
 Reads Rust v0 symbols, one a line, and writes a line for each, with a tab
@@ -29,32 +15,14 @@ ANSWER
   RecursedTooDeep  refused: nested more than 500 levels deep
   TooLong          refused: more than 4096 bytes
 
-",
-    )
-}
-
-fn columns(to: &mut impl Write, out: &mut [u8], used: usize) -> usize {
-    put(
-        to,
-        out,
-        used,
-        b"NAME    the name; (no name) where none is shown: every refusal, NoRoom;
+NAME    the name; (no name) where none is shown: every refusal, NoRoom;
         (empty name) where an accepted symbol's name has no bytes
 SUFFIX  what stands behind the symbol's paths, as .llvm.1; or (no suffix)
 SYMBOL  the line as it was read; or (empty line). A line of more than
         131072 bytes is TooLong, and its start is shown, behind the words
         (first 64 bytes of a longer line)
 
-",
-    )
-}
-
-fn rules(to: &mut impl Write, out: &mut [u8], used: usize) -> usize {
-    put(
-        to,
-        out,
-        used,
-        b"Only desk's own words, those above, start with a parenthesis. Else
+Only desk's own words, those above, start with a parenthesis. Else
   \\\\    is a backslash
   \\xNN  is the byte of that hex number: control bytes, a ( at the start,
         a blank at the start or the end, bytes from 80 up; but in a name
@@ -65,6 +33,4 @@ The last line needs no line end. Empty input gives empty output.
 
 Exit code: 0, with refusals too; 1 where the input cannot be read or the
 output cannot be written; 2 for an unknown option. The script sets it.
-",
-    )
-}
+";

@@ -1,4 +1,5 @@
 -- What the exported functions answer. Assumes nothing.
+use Rattle.std.specs.Prelude.{Result, Ok, Err}
 use mathlib.Core.Path.{◌≡◌, refl, ap, ◌∙◌}
 use mathlib.Core.Bool.{Bool, true, false}
 use mathlib.Core.List.{List, [], ◌∷◌}
@@ -7,35 +8,27 @@ use native.Mathlib.Omega.{arith}
 use borrow.Author.Rules.{rules}
 use lib.ListN.{length, set}
 use Rattle.parser.specs.Digits.{if-then}
+use Rattle.printer.specs.Says.{U}
 use Rattle.printer.specs.Over.{over}
-use Rattle.demangle.specs.Rows.{check_number, number_of, whole, damaged, answer, row_of}
-use Rattle.demangle.specs.declared.check.Checked.{Checked}
-use Rattle.demangle.specs.declared.check.Checked.TheVariants.{Done as Passed, Invalid as NotPassed, RecursedTooDeep as TooDeep, TooLong as Longer}
-use Rattle.demangle.specs.declared.print.Mode.{Mode}
-use Rattle.demangle.specs.declared.print.Mode.TheVariants.{Plain, Short}
+use Rattle.demangle.specs.Rows.{refusal_number, check_number, number_of, whole, damaged, answer, row_of}
+use Rattle.demangle.specs.declared.refusal.Refusal.{Refusal}
+use Rattle.demangle.specs.declared.refusal.Refusal.TheVariants.{Invalid, RecursedTooDeep, TooLong, NoRoom}
 use Rattle.demangle.specs.declared.print.Printed.{Printed}
-use Rattle.demangle.specs.declared.print.Printed.TheVariants.{Done, Invalid, RecursedTooDeep, TooLong, NoRoom}
+use Rattle.pieces.specs.declared.mode.Mode.{Mode}
+use Rattle.pieces.specs.declared.mode.Mode.TheVariants.{Plain, Short}
 use Rattle.exports.specs.Report.{mode_by, state_number, state_by, reported, given}
 
 -- ---- the check
-module _ (s : List ℕ) {c : Checked} (answered : check_number c ≡ number_of s) where
-  pub number-done : c ≡ Passed → 0 ≡ number_of s
+module _ (s : List ℕ) {c : Result U Refusal} (answered : check_number c ≡ number_of s) where
+  pub number-done : c ≡ Ok tt → 0 ≡ number_of s
   unfolding check_number
   number-done h = rw (← answered, h)
 
-  pub number-invalid : c ≡ NotPassed → 1 ≡ number_of s
+  pub number-refused : {e : Refusal} {n : ℕ} → c ≡ Err e → n ≡ refusal_number e → n ≡ number_of s
   unfolding check_number
-  number-invalid h = rw (← answered, h)
+  number-refused h k = rw (← answered, h) k
 
-  pub number-deep : c ≡ TooDeep → 2 ≡ number_of s
-  unfolding check_number
-  number-deep h = rw (← answered, h)
-
-  pub number-long : c ≡ Longer → 3 ≡ number_of s
-  unfolding check_number
-  number-long h = rw (← answered, h)
-
-pub ruleset check-laws = (number-done, number-invalid, number-deep, number-long, rules)
+pub ruleset check_laws = (number-done, number-refused, rules)
 
 -- ---- the mode and the state
 pub mode-plain : (m : ℕ) → m ≡ 0 → Plain ≡ mode_by m
@@ -47,7 +40,7 @@ unfolding mode_by
 mode-short zero h = absurd (h refl)
 mode-short (suc m) h = refl
 
-pub ruleset mode-laws = (mode-plain, mode-short, rules)
+pub ruleset mode_laws = (mode-plain, mode-short, rules)
 
 pub state-whole : (w : Bool) → w ≡ true → 1 ≡ state_by w
 unfolding state_by
@@ -57,7 +50,7 @@ pub state-damaged : (w : Bool) → w ≡ false → 2 ≡ state_by w
 unfolding state_by
 state-damaged w h = rw h
 
-pub ruleset state-laws = (state-whole, state-damaged, rules)
+pub ruleset state_laws = (state-whole, state-damaged, rules)
 
 state-is : (w : Bool) → state_by w ≡ state_number (if-then w whole damaged)
 unfolding state_by state_number
@@ -78,7 +71,7 @@ put-past [] i v h = refl
 put-past (x ∷ r) zero v h = absurd (omega arith)
 put-past (x ∷ r) (suc i) v h = ap (λ (t : List ℕ). x ∷ t) (put-past r i v (omega arith))
 
-pub ruleset put-laws = (put-there, put-past, rules)
+pub ruleset put_laws = (put-there, put-past, rules)
 
 two : (r : List ℕ) (l t : ℕ) → over (over r 0 (l ∷ [])) 1 (t ∷ []) ≡ over r 0 (l ∷ t ∷ [])
 unfolding over
@@ -90,28 +83,35 @@ two (x ∷ y ∷ z ∷ r) l t = refl
 pub told-two : (r f g : List ℕ) (l t : ℕ) → f ≡ over r 0 (l ∷ []) → g ≡ over f 1 (t ∷ []) → g ≡ over r 0 (l ∷ t ∷ [])
 told-two r f g l t h k = k ∙ rw h (two r l t)
 
-pub ruleset tell-laws = (told-two, rules)
+pub ruleset tell_laws = (told-two, rules)
 
 -- ---- the print: e and f are buffer and report after the call
-module _ (mode : ℕ) (s b e r f : List ℕ) {m : Mode} {p : Printed} (chosen : m ≡ mode_by mode) (met : answer p e ≡ row_of m s b) where
-  pub print-done : {n t : ℕ} {w : Bool} → p ≡ Done n w → t ≡ state_by w → f ≡ over r 0 (n ∷ t ∷ []) → reported 0 e f ≡ given r (row_of (mode_by mode) s b)
+pub length-full : (x : Refusal) (e : List ℕ) → x ≡ NoRoom → length e ≡ (answer (Err x) e).length
+unfolding answer
+length-full x e h = rw h
+
+pub length-none : (x : Refusal) (e : List ℕ) → (x ≡ NoRoom → ⊥) → 0 ≡ (answer (Err x) e).length
+unfolding answer
+length-none Invalid e o = refl
+length-none RecursedTooDeep e o = refl
+length-none TooLong e o = refl
+length-none NoRoom e o = absurd (o refl)
+
+pub ruleset length_laws = (length-full, length-none, rules)
+
+module _ (mode : ℕ) (s b e r f : List ℕ) {m : Mode} {p : Result Printed Refusal} (chosen : m ≡ mode_by mode) (met : answer p e ≡ row_of m s b) where
+  pub print-done : {x : Printed} {t : ℕ} → p ≡ Ok x → t ≡ state_by x.whole → f ≡ over r 0 (x.length ∷ t ∷ []) → reported 0 e f ≡ given r (row_of (mode_by mode) s b)
   unfolding given answer
-  print-done {n} {t} {w} h k l = rw (← chosen, ← met, h, l, k, state-is w)
+  print-done {x} {t} h k l = rw (← chosen, ← met, h, l, k, state-is x.whole)
 
-  pub print-invalid : p ≡ Invalid → f ≡ over r 0 (0 ∷ 0 ∷ []) → reported 1 e f ≡ given r (row_of (mode_by mode) s b)
-  unfolding given answer state_number
-  print-invalid h l = rw (← chosen, ← met, h, l)
+  pub print-refused : {x : Refusal} {n l : ℕ} → p ≡ Err x → n ≡ refusal_number x → l ≡ (answer (Err x) e).length → f ≡ over r 0 (l ∷ 0 ∷ []) → reported n e f ≡ given r (row_of (mode_by mode) s b)
+  unfolding given answer state_number refusal_number
+  print-refused {x} {n} h k l o = rw (← chosen, ← met, h, k, o, l) (go x)
+    where
+      go : (y : Refusal) → reported (refusal_number y) e (over r 0 ((answer (Err y) e).length ∷ 0 ∷ [])) ≡ given r (answer (Err y) e)
+      go Invalid = refl
+      go RecursedTooDeep = refl
+      go TooLong = refl
+      go NoRoom = refl
 
-  pub print-deep : p ≡ RecursedTooDeep → f ≡ over r 0 (0 ∷ 0 ∷ []) → reported 2 e f ≡ given r (row_of (mode_by mode) s b)
-  unfolding given answer state_number
-  print-deep h l = rw (← chosen, ← met, h, l)
-
-  pub print-long : p ≡ TooLong → f ≡ over r 0 (0 ∷ 0 ∷ []) → reported 3 e f ≡ given r (row_of (mode_by mode) s b)
-  unfolding given answer state_number
-  print-long h l = rw (← chosen, ← met, h, l)
-
-  pub print-full : p ≡ NoRoom → f ≡ over r 0 (length e ∷ 0 ∷ []) → reported 4 e f ≡ given r (row_of (mode_by mode) s b)
-  unfolding given answer state_number
-  print-full h l = rw (← chosen, ← met, h, l)
-
-pub ruleset print-laws = (print-done, print-invalid, print-deep, print-long, print-full, rules)
+pub ruleset print_laws = (print-done, print-refused, rules)

@@ -2,8 +2,8 @@
 use Rattle.std.specs.Prelude.{Bool, true, false, List, [], ◌∷◌, ℕ, zero, suc}
 use Rattle.printer.specs.Over.{over}
 use Rattle.demangle.specs.Rows.{Told, whole, damaged, unknown, Row}
-use Rattle.demangle.specs.declared.print.Mode.{Mode}
-use Rattle.demangle.specs.declared.print.Mode.TheVariants.{Plain, Short}
+use Rattle.pieces.specs.declared.mode.Mode.{Mode}
+use Rattle.pieces.specs.declared.mode.Mode.TheVariants.{Plain, Short}
 
 -- 0 is plain, any other number short
 unfoldable pub mode_by : ℕ → Mode

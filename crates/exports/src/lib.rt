@@ -2,23 +2,23 @@
 // Each takes any bytes, any mode and any buffers, empty ones too.
 #![tactic(auto)]
 
-ghost use Rattle.std.specs.Prelude.{◌≡◌, [], ◌∷◌};
+ghost use Rattle.std.specs.Prelude.{◌≡◌, Err, [], ◌∷◌};
 ghost use Rattle.printer.specs.Over.{over};
-ghost use Rattle.demangle.specs.Rows.{number_of, suffix_from, row_of};
+ghost use Rattle.demangle.specs.Rows.{answer, number_of, suffix_from, row_of};
 ghost use Rattle.exports.specs.Report.{mode_by, state_by, reported, given};
 
-use demangle::check::Checked;
-use demangle::print::{Mode, Printed};
+use demangle::check::{check, start};
+use demangle::print::{Mode, print};
+use demangle::refusal::Refusal;
 
 // Document 01's number of the check's answer.
+#[tactic(auto, using(crate::proofs::ReportLaws::check_laws))]
 pub fn vault_check(symbol: &[u8]) -> u32
     ensures { result ≡ number_of symbol.now }
 {
-    match demangle::check::check(symbol) {
-        Checked::Done => 0,
-        Checked::Invalid => 1,
-        Checked::RecursedTooDeep => 2,
-        Checked::TooLong => 3,
+    match check(symbol) {
+        Ok(()) => 0,
+        Err(refusal) => refusal.number(),
     }
 }
 
@@ -26,10 +26,11 @@ pub fn vault_check(symbol: &[u8]) -> u32
 pub fn vault_suffix(symbol: &[u8]) -> usize
     ensures { result ≡ suffix_from symbol.now }
 {
-    demangle::check::start(symbol)
+    start(symbol)
 }
 
 // 0 is plain, any other number short.
+#[tactic(auto, using(crate::proofs::ReportLaws::mode_laws))]
 fn mode_of(mode: u32) -> Mode
     ensures { result ≡ mode_by mode }
 {
@@ -37,13 +38,26 @@ fn mode_of(mode: u32) -> Mode
 }
 
 // 1 is whole, 2 damaged.
+#[tactic(auto, using(crate::proofs::ReportLaws::state_laws))]
 fn state_of(whole: bool) -> u64
     ensures { result ≡ state_by whole }
 {
     if whole { 1 } else { 2 }
 }
 
+// Where the name is longer than the buffer, the buffer's own length; else 0.
+#[tactic(auto, using(crate::proofs::ReportLaws::length_laws))]
+fn length_of(refusal: Refusal, buffer: &[u8]) -> usize
+    ensures { result ≡ (answer (Err refusal) buffer.now).length }
+{
+    match refusal {
+        Refusal::NoRoom => buffer.len(),
+        _ => 0,
+    }
+}
+
 // A number of the report, where it has room.
+#[tactic(auto, using(crate::proofs::ReportLaws::put_laws))]
 fn put(report: &mut [u64], i: usize, v: u64)
     ensures { report.new ≡ over report.old i (v ∷ []) }
 {
@@ -53,6 +67,7 @@ fn put(report: &mut [u64], i: usize, v: u64)
 }
 
 // The length and the state.
+#[tactic(auto, using(crate::proofs::ReportLaws::tell_laws))]
 fn tell(report: &mut [u64], length: u64, state: u64)
     ensures { report.new ≡ over report.old 0 (length ∷ state ∷ []) }
 {
@@ -62,30 +77,18 @@ fn tell(report: &mut [u64], length: u64, state: u64)
 
 // Document 01's number of the print's answer. The name is laid into the buffer; the report gets its length and its state: 0 unknown,
 // 1 whole, 2 damaged.
+#[tactic(auto, using(crate::proofs::ReportLaws::print_laws))]
 pub fn vault_print(symbol: &[u8], mode: u32, buffer: &mut [u8], report: &mut [u64]) -> u32
     ensures { reported result buffer.new report.new ≡ given report.old (row_of (mode_by mode) symbol.now buffer.old) }
 {
-    let printed = demangle::print::print(symbol, mode_of(mode), buffer);
-    match printed {
-        Printed::Done(n, whole) => {
-            tell(report, n as u64, state_of(whole));
+    match print(symbol, mode_of(mode), buffer) {
+        Ok(name) => {
+            tell(report, name.length as u64, state_of(name.whole));
             0
         }
-        Printed::Invalid => {
-            tell(report, 0, 0);
-            1
-        }
-        Printed::RecursedTooDeep => {
-            tell(report, 0, 0);
-            2
-        }
-        Printed::TooLong => {
-            tell(report, 0, 0);
-            3
-        }
-        Printed::NoRoom => {
-            tell(report, buffer.len() as u64, 0);
-            4
+        Err(refusal) => {
+            tell(report, length_of(refusal, buffer) as u64, 0);
+            refusal.number()
         }
     }
 }

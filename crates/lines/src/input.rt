@@ -1,130 +1,124 @@
-// A line of input: collected byte by byte in a lent buffer, and taken apart.
-ghost use Rattle.std.specs.Prelude.{◌≤◌, length};
+// A line of input: collected byte by byte, and taken apart.
+ghost use Rattle.std.specs.Prelude.{◌≡◌, ℕ, ◌+◌, ◌-◌, ◌*◌, ◌^◌, ◌≤◌, ◌<◌, ◌==◌, ◌++◌, ◌∷◌, List, [], length, take, IfOk, IfErr, IfSome, IsOk};
+ghost use Rattle.std.specs.Io.{ReadsAtMost};
+ghost use Rattle.std.specs.List.{before_first, after_first, position};
 
-use parser::number::{Run, digit, number};
+use parser::number::{digit, number};
+use std::io;
+use std::io::Read;
+use std::marker::Model;
 
-// How many bytes of a line are held, and whether there were more than the buffer takes.
+// The bytes of a line, as far as there is room for them, and how many there were.
 #[derive(Drop)]
-pub struct Held {
-    pub count: usize,
-    pub long: bool,
+pub struct Line<const N: usize> {
+    bytes: [u8; N],
+    count: usize,
 }
 
-pub fn nothing() -> Held {
-    Held {
-        count: 0,
-        long: false,
+// The bytes that are held, and how many there were.
+impl<const N: usize> Model for Line<N> {
+    ghost Value = { List ℕ × ℕ };
+
+    ghost view = { λ l. (take l.count l.bytes, l.count) };
+}
+
+impl<const N: usize> Line<N> {
+    pub fn new() -> Line<N>
+        ensures { result ≡ ([], 0) }
+    {
+        Line {
+            bytes: [0; N],
+            count: 0,
+        }
+    }
+
+    pub fn push(&mut self, b: u8)
+        ensures room { length self.old.0 < N → self.new.0 ≡ self.old.0 ++ b ∷ [] }
+        ensures full { N ≤ length self.old.0 → self.new.0 ≡ self.old.0 }
+        ensures counted { self.old.1 < 2 ^ 64 - 1 → self.new.1 ≡ self.old.1 + 1 }
+    {
+        if self.count < N {
+            self.bytes[self.count] = b;
+        }
+        self.count = self.count.saturating_add(1);
+    }
+
+    pub fn clear(&mut self)
+        ensures { self.new ≡ ([], 0) }
+    {
+        self.count = 0;
+    }
+
+    pub fn is_empty(&self) -> bool
+        ensures { result ≡ (self.now.1 == 0) }
+    {
+        self.count == 0
+    }
+
+    // The line; or, where there was no room for all of it, as an error the part there was room for.
+    pub fn text(&self) -> Result<&[u8], &[u8]>
+        ensures whole { IfOk result (λ s. (s.now ≡ self.now.0) × (length s.now ≡ self.now.1)) }
+        ensures long { IfErr result (λ s. (s.now ≡ self.now.0) × (length s.now < self.now.1)) }
+    {
+        self.bytes.get(..self.count).ok_or(&self.bytes)
     }
 }
 
-// The line with one byte more.
-pub fn with_byte(line: &mut [u8], h: Held, b: u8) -> Held {
-    let n = h.count;
-    if n >= line.len() {
-        return Held {
-            count: n,
-            long: true,
-        };
-    }
-    line[n] = b;
-    Held {
-        count: n + 1,
-        long: h.long,
-    }
-}
-
-// The first bytes of a slice: all of them, where it has no more than asked for.
-pub fn front(s: &[u8], n: usize) -> &[u8] {
-    if n > s.len() {
-        return s;
-    }
-    let from = 0;
-    &s[from..n]
-}
-
-// Where the first field of a line ends: at its first blank, or with the line.
-pub fn field_end(line: &[u8]) -> usize
-    ensures { result ≤ length line.now }
+// The first field of a line, and what stands behind it and its blank.
+pub fn first_field(line: &[u8]) -> (&[u8], &[u8])
+    ensures field { result.0.now ≡ before_first (λ b. b == 32) line.now }
+    ensures rest { result.1.now ≡ after_first (λ b. b == 32) line.now }
 {
-    for (i, b) in line.iter().enumerate() {
-        if *b == b' ' {
-            return i;
-        }
+    match first_blank(line) {
+        Some(end) => (&line[..end], &line[end + 1..]),
+        None => (line, &[]),
     }
-    line.len()
 }
 
-// What stands behind the first field and its blank.
-pub fn behind(line: &[u8]) -> &[u8] {
-    let e = field_end(line);
-    if e < line.len() {
-        let a = e + 1;
-        return &line[a..];
-    }
-    &line[e..]
+fn first_blank(line: &[u8]) -> Option<usize>
+    ensures { result ≡ position (λ b. b == 32) line.now }
+{
+    line.iter().position(|b| *b == b' ')
 }
 
-// The first field of a line as a number.
+// The number that a field is: decimal digits only, one at least, and no more than `most`. (`parse` would take a sign.)
+pub fn number_of(field: &[u8], most: u64) -> Option<u64>
+    ensures { IfSome result (λ n. n ≤ most) }
+{
+    match number(field, 0, 10) {
+        Ok((v, end)) if end > 0 && end == field.len() && v <= most => Some(v),
+        _ => None,
+    }
+}
+
+// The bytes that a field spells, put into a buffer: two lower-case hex digits for each, no more of them than there is room for.
+// (`to_digit` would take capitals.)
+pub fn from_hex<'a>(field: &[u8], room: &'a mut [u8]) -> Option<&'a [u8]>
+    ensures { IfSome result (λ s. 2 * length s.now ≡ length field.now) }
+{
+    if field.len() % 2 != 0 {
+        return None;
+    }
+    let bytes = room.get_mut(..field.len() / 2)?;
+    for (b, pair) in bytes.iter_mut().zip(field.chunks_exact(2)) {
+        *b = nibble(pair[0])? << 4 | nibble(pair[1])?;
+    }
+    Some(bytes)
+}
+
+fn nibble(b: u8) -> Option<u8> {
+    u8::try_from(digit(b)).ok().filter(|d| *d < 16)
+}
+
+// A reader whose input ends where it cannot be read.
 #[derive(Drop)]
-pub enum Field {
-    Number(u64),
-    Bad,
-}
+pub struct Readable<R>(pub R);
 
-// Decimal digits only, one at least, and no more than `most`.
-pub fn number_field(line: &[u8], most: u64) -> Field {
-    let e = field_end(line);
-    if e == 0 {
-        return Field::Bad;
+impl<R: Read> Read for Readable<R> {
+    fn read(&mut self, buf: &mut [u8]) -> io::Result<usize>
+        ensures ok { IsOk result }
+        ensures bound { ReadsAtMost result buf.new }
+    {
+        self.0.read(buf).or(Ok(0))
     }
-    let Run::Fits(v, next) = number(line, 0, 10) else {
-        return Field::Bad;
-    };
-    if next != e {
-        return Field::Bad;
-    }
-    if v > most {
-        return Field::Bad;
-    }
-    Field::Number(v)
-}
-
-// Bytes that were read from hex text, or that it is none.
-#[derive(Drop)]
-pub enum Bytes {
-    Count(usize),
-    Bad,
-}
-
-// Two lower-case hex digits for each byte, no more of them than there is room for.
-pub fn from_hex(text: &[u8], bytes: &mut [u8]) -> Bytes {
-    if text.len() % 2 != 0 {
-        return Bytes::Bad;
-    }
-    let n = text.len() / 2;
-    if n > bytes.len() {
-        return Bytes::Bad;
-    }
-    for i in 0..n {
-        let hi = digit(text[2 * i]);
-        let lo = digit(text[2 * i + 1]);
-        if hi >= 16 {
-            return Bytes::Bad;
-        }
-        if lo >= 16 {
-            return Bytes::Bad;
-        }
-        bytes[i] = (hi * 16 + lo) as u8;
-    }
-    Bytes::Count(n)
-}
-
-// Whether every byte is ASCII.
-pub fn ascii(s: &[u8]) -> bool {
-    for b in s {
-        if *b >= 128 {
-            return false;
-        }
-    }
-    true
 }

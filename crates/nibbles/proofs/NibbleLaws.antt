@@ -10,9 +10,8 @@ use lib.ListN.{length, drop}
 use lib.Seq.{drop-drop}
 use Rattle.parser.specs.Digits.{if-then, digit_of}
 use Rattle.nibbles.specs.Utf8.{utf8, Starts, First, one, none, first}
-use Rattle.nibbles.specs.Chars.{Spells, empty, pair, octets, found, char_in, char_at}
-use Rattle.nibbles.specs.declared.text.Char.{Char}
-use Rattle.nibbles.specs.declared.text.Char.TheVariants.{One, End, Bad}
+use Rattle.std.specs.Prelude.{Some, None, Ok, Err}
+use Rattle.nibbles.specs.Chars.{Spells, empty, pair, octets, found, Char, char_of, char_in, char_at}
 use Rattle.nibbles.proofs.Utf8Laws.{clash, first-starts}
 
 -- a pair that spells a byte
@@ -80,15 +79,15 @@ pub record NoChar (s : List ℕ) (at : ℕ) : Type 0 where
   pub none_first : first (octets (drop at s)) ≡ none
 
 abbrev pub Says : List ℕ → ℕ → Char → Type 0
-Says s at (One c next) = (rest : List ℕ) × Reads s at c next rest
-Says s at End = drop at s ≡ []
-Says s at Bad = NoChar s at
+Says s at (Ok (Some (c, next))) = (rest : List ℕ) × Reads s at c next rest
+Says s at (Ok None) = drop at s ≡ []
+Says s at (Err e) = NoChar s at
 
 pub says : (s : List ℕ) (at : ℕ) {r : Char} → char_at s at ≡ r → Says s at r
 unfolding char_at
 says s at {r} e = subst (Says s at) e (go (drop at s) refl)
   where
-    turn : (b : ℕ) (l : List ℕ) → drop at s ≡ b ∷ l → (f : First) → first (octets (b ∷ l)) ≡ f → Says s at (found f at)
+    turn : (b : ℕ) (l : List ℕ) → drop at s ≡ b ∷ l → (f : First) → first (octets (b ∷ l)) ≡ f → Says s at (char_of (found f at))
     turn b l k (one c rest) h =
         let t : Starts c rest (octets (drop at s)) = first-starts (octets (drop at s)) (rw k h) in
         let p = past (utf8 c) (drop at s) rest t.bytes-are in

@@ -13,8 +13,7 @@ use Rattle.parser.specs.Scalar.{is_scalar}
 use Rattle.nibbles.specs.Utf8.{utf8, cont, First, one, none, first}
 use Rattle.nibbles.specs.Chars.{found}
 use Rattle.nibbles.specs.Steps.{settled_of, tail_in}
-use Rattle.nibbles.specs.declared.text.Char.{Char}
-use Rattle.nibbles.specs.declared.text.Char.TheVariants.{One, End, Bad}
+use Rattle.std.specs.Prelude.{Option, Some, None}
 use Rattle.nibbles.proofs.Utf8Laws.{clash, scalar_below, Form, one_byte, two_bytes, three-bytes, four_bytes, form, utf8-one, utf8-two, utf8-three, utf8-four, first-is, first-starts}
 
 -- c without its k lowest groups of six bits, and the k continuation bytes that hold these
@@ -38,30 +37,28 @@ record Fit (k low v : ℕ) (bs : List ℕ) (c : ℕ) (rest : List ℕ) : Type 0 
   least : low ≤ c
   scalar : is_scalar c ≡ true
 
-abbrev Tail : ℕ → ℕ → ℕ → List ℕ → ℕ → Char → Type 0
-Tail k low v bs at (One c next) = (rest : List ℕ) × Fit k low v bs c rest × (next ≡ at + 2 * k)
-Tail k low v bs at Bad = (c : ℕ) (rest : List ℕ) → Fit k low v bs c rest → ⊥
-Tail k low v bs at End = ⊥
+abbrev Tail : ℕ → ℕ → ℕ → List ℕ → ℕ → Option (ℕ × ℕ) → Type 0
+Tail k low v bs at (Some (c, next)) = (rest : List ℕ) × Fit k low v bs c rest × (next ≡ at + 2 * k)
+Tail k low v bs at None = (c : ℕ) (rest : List ℕ) → Fit k low v bs c rest → ⊥
 
 settled-tail : (low v : ℕ) (bs : List ℕ) (at : ℕ) → Tail zero low v bs at (settled_of low v at)
 unfolding settled_of
 settled-tail low v bs at = go (ltb v low) refl (is_scalar v) refl
   where
-    go : (t : Bool) → ltb v low ≡ t → (u : Bool) → is_scalar v ≡ u → Tail zero low v bs at (if-then t Bad (if-then u (One v at) Bad))
+    go : (t : Bool) → ltb v low ≡ t → (u : Bool) → is_scalar v ≡ u → Tail zero low v bs at (if-then t None (if-then u (Some (v, at)) None))
     go true h u k = λ c rest f. omega (arith, ltb-true v low h, f.bits, f.least)
     go false h true k = (bs, record { bytes-are = refl; bits = refl; least = ltb-false v low h; scalar = k }, omega arith)
     go false h false k = λ c rest f. clash (cc (ap is_scalar f.bits, f.scalar))
 
 -- one byte more, in its range
-turn : (k low v b : ℕ) (bs : List ℕ) (at : ℕ) → 0x80 ≤ b → b ≤ 0xBF → (r : Char) → Tail k low (v * 64 + (b - 0x80)) bs (at + 2) r → Tail (suc k) low v (b ∷ bs) at r
-turn k low v b bs at h l (One c next) t =
+turn : (k low v b : ℕ) (bs : List ℕ) (at : ℕ) → 0x80 ≤ b → b ≤ 0xBF → (r : Option (ℕ × ℕ)) → Tail k low (v * 64 + (b - 0x80)) bs (at + 2) r → Tail (suc k) low v (b ∷ bs) at r
+turn k low v b bs at h l (Some (c, next)) t =
     let f = t.1 in
     let e : b ≡ 0x80 + upper k c % 64 = omega (arith, f.bits) in
     (t.0, record { bytes-are = cc f.bytes-are; bits = omega (arith, f.bits); least = f.least; scalar = f.scalar }, omega (arith, t.2))
-turn k low v b bs at h l Bad t = λ c rest f.
+turn k low v b bs at h l None t = λ c rest f.
     let e : b ≡ 0x80 + upper k c % 64 = cc f.bytes-are in
     t c rest (record { bytes-are = cc f.bytes-are; bits = omega (arith, f.bits); least = f.least; scalar = f.scalar })
-turn k low v b bs at h l End t = t
 
 -- a byte out of its range
 stray : (k low v b : ℕ) (bs : List ℕ) → (0x80 ≤ b → b ≤ 0xBF → ⊥) → (c : ℕ) (rest : List ℕ) → Fit (suc k) low v (b ∷ bs) c rest → ⊥
@@ -75,7 +72,7 @@ tail zero low v bs at = settled-tail low v bs at
 tail (suc k) low v [] at = λ c rest f. clash (cc f.bytes-are)
 tail (suc k) low v (b ∷ bs) at = go (tail k low (v * 64 + (b - 0x80)) bs (at + 2)) (leb 0x80 b) refl (leb b 0xBF) refl
   where
-    go : Tail k low (v * 64 + (b - 0x80)) bs (at + 2) (tail_in k low (v * 64 + (b - 0x80)) bs (at + 2)) → (t : Bool) → leb 0x80 b ≡ t → (u : Bool) → leb b 0xBF ≡ u → Tail (suc k) low v (b ∷ bs) at (if-then t (if-then u (tail_in k low (v * 64 + (b - 0x80)) bs (at + 2)) Bad) Bad)
+    go : Tail k low (v * 64 + (b - 0x80)) bs (at + 2) (tail_in k low (v * 64 + (b - 0x80)) bs (at + 2)) → (t : Bool) → leb 0x80 b ≡ t → (u : Bool) → leb b 0xBF ≡ u → Tail (suc k) low v (b ∷ bs) at (if-then t (if-then u (tail_in k low (v * 64 + (b - 0x80)) bs (at + 2)) None) None)
     go r true h true l = turn k low v b bs at (leb-true 0x80 b h) (leb-true b 0xBF l) (tail_in k low (v * 64 + (b - 0x80)) bs (at + 2)) r
     go r true h false l = stray k low v b bs (λ p q. omega (arith, leb-false b 0xBF l))
     go r false h u l = stray k low v b bs (λ p q. omega (arith, leb-false 0x80 b h))
@@ -114,7 +111,7 @@ kind-four = record { holds = λ c h s l p q. ((l.four p).0, omega arith); reach 
 
 -- ---- together
 module _ {k base top low high : ℕ} (kind : Kind k base top low high) (b : ℕ) (bs : List ℕ) (at : ℕ) (from : base ≤ b) (to : b < top) where
-  taken : (c next : ℕ) → Tail k low (b - base) bs (at + 2) (One c next) → One c next ≡ found (first (b ∷ bs)) at
+  taken : (c next : ℕ) → Tail k low (b - base) bs (at + 2) (Some (c, next)) → Some (c, next) ≡ found (first (b ∷ bs)) at
   taken c next t =
       let f = t.1 in
       let u = kind.spells c f.least (kind.reach c (omega (arith, f.bits))) in
@@ -123,7 +120,7 @@ module _ {k base top low high : ℕ} (kind : Kind k base top low high) (b : ℕ)
       let n : next ≡ at + 2 * length (utf8 c) = rw u (omega (arith, length-conts k c, t.2)) in
       rw (e, first-is c t.0 f.scalar, n)
 
-  refused : Tail k low (b - base) bs (at + 2) Bad → (f : First) → first (b ∷ bs) ≡ f → Bad ≡ found f at
+  refused : Tail k low (b - base) bs (at + 2) None → (f : First) → first (b ∷ bs) ≡ f → None ≡ found f at
   refused t none h = refl
   refused t (one c rest) h =
       let s = first-starts (b ∷ bs) h in
@@ -137,7 +134,6 @@ module _ {k base top low high : ℕ} (kind : Kind k base top low high) (b : ℕ)
   pub long-form : tail_in k low (b - base) bs (at + 2) ≡ found (first (b ∷ bs)) at
   long-form = go (tail_in k low (b - base) bs (at + 2)) (tail k low (b - base) bs (at + 2))
     where
-      go : (r : Char) → Tail k low (b - base) bs (at + 2) r → r ≡ found (first (b ∷ bs)) at
-      go (One c next) t = taken c next t
-      go Bad t = refused t (first (b ∷ bs)) refl
-      go End t = absurd t
+      go : (r : Option (ℕ × ℕ)) → Tail k low (b - base) bs (at + 2) r → r ≡ found (first (b ∷ bs)) at
+      go (Some (c, next)) t = taken c next t
+      go None t = refused t (first (b ∷ bs)) refl

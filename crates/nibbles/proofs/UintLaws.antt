@@ -11,13 +11,12 @@ use borrow.Author.Tests.{le-leb, lt-leb, eq-eqb, ne_eqb, ltb-true}
 use lib.Arith.{digits_lt}
 use lib.Dec.{ltb}
 use lib.ListN.{length, get_or, drop}
+use Rattle.std.specs.Prelude.{Some, None, Result, Ok, Err}
 use Rattle.parser.specs.Digits.{if-then, digit_of, digits, value}
 use Rattle.parser.specs.Number.{number_at}
-use Rattle.parser.specs.declared.number.Run.{Run}
-use Rattle.parser.specs.declared.number.Run.TheVariants.{Fits, Over}
 use Rattle.parser.proofs.ReaderLaws.{Got, Passed, got, passed, after-fits}
 use Rattle.nibbles.specs.Uint.{trim, hex_value}
-use Rattle.nibbles.specs.declared.uint.Hex.TheVariants.{Small, Big, Invalid}
+use Rattle.nibbles.specs.declared.uint.Hex.TheVariants.{Small, Big}
 
 abbrev Below : ℕ → List ℕ → Type 0
 Below b [] = Unit {0}
@@ -58,34 +57,34 @@ trim-large b n (suc d ∷ ds) pos h =
     le_trans (pow-le-pow_right pos {i = n} {j = length ds} (omega arith)) (rw suc-mul (omega arith))
 
 -- ---- the returns of `hex_value`: n is what `number` answered, p what `peek` answered
-module _ (s : List ℕ) (at e p : ℕ) (n : Run) (numbered : n ≡ number_at 16 s at) (peeked : p ≡ get_or s e 0) where
+module _ (s : List ℕ) (at e p : ℕ) (n : Result (ℕ × ℕ) ℕ) (numbered : n ≡ number_at 16 s at) (peeked : p ≡ get_or s e 0) where
   ds : List ℕ
   ds = digits 16 (drop at s)
 
-  open_at : at + length (digits 16 (drop at s)) ≡ e → (p ≡ 95 → ⊥) → Invalid ≡ hex_value s at
+  open_at : at + length (digits 16 (drop at s)) ≡ e → (p ≡ 95 → ⊥) → None ≡ hex_value s at
   unfolding hex_value
   open_at end h = rw (end, ne_eqb (get_or s e 0) 95 (λ k. h (peeked ∙ k)))
 
-  module _ (x : ℕ) (known : n ≡ Fits x e) where
-    pub hex-small : p ≡ 95 → Small x (e + 1) ≡ hex_value s at
+  module _ (x : ℕ) (known : n ≡ Ok (x, e)) where
+    pub hex-small : p ≡ 95 → Some (Small x, e + 1) ≡ hex_value s at
     unfolding hex_value ds
     hex-small h =
         let g : Got 16 s at x e = got (sym known ∙ numbered) in
         let few : length (trim ds) ≤ 16 = elim (dec_lt 16 (length (trim ds))) [ yes k ↦ absurd (omega (arith, trim-large 16 16 ds (omega arith) k, trim-value 16 ds, g.is, g.fits)) | no k ↦ omega arith ] in
         rw (g.end, eq-eqb (get_or s e 0) 95 (sym peeked ∙ h), le-leb (length (trim ds)) 16 few, trim-value 16 ds, g.is)
 
-    pub hex-small-open : (p ≡ 95 → ⊥) → Invalid ≡ hex_value s at
+    pub hex-small-open : (p ≡ 95 → ⊥) → None ≡ hex_value s at
     hex-small-open h = open_at (got (sym known ∙ numbered)).end h
 
-  module _ (known : n ≡ Over e) where
-    pub hex-big : p ≡ 95 → Big e (e + 1) ≡ hex_value s at
+  module _ (known : n ≡ Err e) where
+    pub hex-big : p ≡ 95 → Some (Big e, e + 1) ≡ hex_value s at
     unfolding hex_value ds
     hex-big h =
         let g : Passed 16 s at e = passed (sym known ∙ numbered) in
         let many : 16 < length (trim ds) = elim (dec_lt 16 (length (trim ds))) [ yes k ↦ k | no k ↦ absurd (omega (arith, value-below 16 (trim ds) (trim-below 16 ds (digits-below 16 (drop at s))), pow-le-pow_right {n = 16} (omega arith) {i = length (trim ds)} {j = 16} (omega arith), trim-value 16 ds, g.big)) ] in
         rw (g.end, eq-eqb (get_or s e 0) 95 (sym peeked ∙ h), lt-leb (length (trim ds)) 16 many)
 
-    pub hex-big-open : (p ≡ 95 → ⊥) → Invalid ≡ hex_value s at
+    pub hex-big-open : (p ≡ 95 → ⊥) → None ≡ hex_value s at
     hex-big-open h = open_at (passed (sym known ∙ numbered)).end h
 
-pub ruleset hex-laws = (hex-small, hex-small-open, hex-big, hex-big-open, after-fits, rules)
+pub ruleset hex_laws = (hex-small, hex-small-open, hex-big, hex-big-open, after-fits, rules)

@@ -1,4 +1,5 @@
 -- The theorems: what is read is what was encoded, for bytes and for nibbles, and no text ever meets a bad character. Assumes nothing.
+use Rattle.std.specs.Prelude.{Some, None, Ok, Err}
 use mathlib.Core.Path.{◌≡◌, refl, sym, ap, ◌∙◌}
 use mathlib.Core.Logic.{◌↔◌}
 use mathlib.Core.Bool.{Bool, true, false}
@@ -11,9 +12,7 @@ use lib.ListN.{length, drop, length-append, length-drop}
 use Rattle.parser.specs.Digits.{if-then}
 use Rattle.parser.specs.Scalar.{is_scalar}
 use Rattle.nibbles.specs.Utf8.{utf8, encoded, Scalars, Starts, Encodes, WellFormed, one, first, Text, text, no_text, onto, decoded, decode}
-use Rattle.nibbles.specs.Chars.{Spells, octets, paired, char_at, text_of, is_some, is_text}
-use Rattle.nibbles.specs.declared.text.Char.{Char}
-use Rattle.nibbles.specs.declared.text.Char.TheVariants.{One, End, Bad}
+use Rattle.nibbles.specs.Chars.{Spells, octets, paired, Char, no_char, char_at, text_of, is_some, is_text}
 use Rattle.nibbles.proofs.Utf8Laws.{clash, first-is, first-starts, some_bytes, decode-on, decode-none, encoded-decodes, decode-encodes}
 use Rattle.nibbles.proofs.NibbleLaws.{spelled, spells, Reads, NoChar, Says, says}
 
@@ -75,7 +74,7 @@ pub record Within (s : List ℕ) (at c next : ℕ) : Type 0 where
   pub on : at < next
   pub there : next ≤ length s
 
-pub one-within : (s : List ℕ) (at : ℕ) {c next : ℕ} → char_at s at ≡ One c next → Within s at c next
+pub one-within : (s : List ℕ) (at : ℕ) {c next : ℕ} → char_at s at ≡ Ok (Some (c, next)) → Within s at c next
 one-within s at {c} e =
     let r = (says s at e).1 in
     record { scalar = r.starts.scalar; on = omega (arith, some_bytes c, r.place); there = omega (arith, some_bytes c, r.place, r.fit, length-drop at s) }
@@ -83,9 +82,9 @@ one-within s at {c} e =
 -- ---- a loop over a text
 -- the text from a place on, by what `char_at` answers there
 abbrev pub text_after : List ℕ → Char → Text
-text_after s (One c next) = onto c (text_of (drop next s))
-text_after s End = text []
-text_after s Bad = no_text
+text_after s (Ok (Some (c, next))) = onto c (text_of (drop next s))
+text_after s (Ok None) = text []
+text_after s (Err e) = no_text
 
 -- the count of nibbles is even after a character just where it was before
 even-on : (s : List ℕ) (at c next : ℕ) (rest : List ℕ) → Reads s at c next rest → paired (drop at s) ≡ paired (drop next s)
@@ -120,39 +119,39 @@ text_at s at {r} e = go r (says s at e)
     none-at k (b ∷ bs) h = rw (decode-none b bs (ap first (sym h) ∙ k.none_first)) (if_none (eqb (2 * length (b ∷ bs)) (length (drop at s))))
 
     go : (r : Char) → Says s at r → if-then (paired (drop at s)) (decode (octets (drop at s))) no_text ≡ text_after s r
-    go (One c next) k =
+    go (Ok (Some (c, next))) k =
         let q = k.1 in
         rw (even-on s at c next k.0 q, decode-on (octets (drop at s)) (ap first q.starts.bytes-are ∙ first-is c k.0 q.starts.scalar), ← q.others) (if-onto (paired (drop next s)) c (decode (octets (drop next s))))
-    go End h = rw h (unfold octets decode decoded in refl)
-    go Bad k = none-at k (octets (drop at s)) refl
+    go (Ok None) h = rw h (unfold octets decode decoded in refl)
+    go (Err e) k = none-at k (octets (drop at s)) refl
 
 -- where a text is left at a place: the end, or its first character and the place where the others are left
 abbrev pub Next : List ℕ → ℕ → List ℕ → Type 0
-Next s at [] = char_at s at ≡ End
-Next s at (c ∷ cs) = (next : ℕ) × (char_at s at ≡ One c next) × (text_of (drop next s) ≡ text cs)
+Next s at [] = char_at s at ≡ Ok None
+Next s at (c ∷ cs) = (next : ℕ) × (char_at s at ≡ Ok (Some (c, next))) × (text_of (drop next s) ≡ text cs)
 
 pub read-on : (s : List ℕ) (at : ℕ) (cs : List ℕ) → text_of (drop at s) ≡ text cs → Next s at cs
 read-on s at cs e = go (char_at s at) refl
   where
-    turn : (c next : ℕ) → char_at s at ≡ One c next → (t : Text) → text_of (drop next s) ≡ t → onto c t ≡ text cs → Next s at cs
+    turn : (c next : ℕ) → char_at s at ≡ Ok (Some (c, next)) → (t : Text) → text_of (drop next s) ≡ t → onto c t ≡ text cs → Next s at cs
     turn c next h (text ds) k q =
         let p : cs ≡ c ∷ ds = cc in
         rw p (next, h, k)
     turn c next h no_text k q = clash (cc)
 
     go : (r : Char) → char_at s at ≡ r → Next s at cs
-    go (One c next) h = turn c next h (text_of (drop next s)) refl (sym (text_at s at h) ∙ e)
-    go End h =
+    go (Ok (Some (c, next))) h = turn c next h (text_of (drop next s)) refl (sym (text_at s at h) ∙ e)
+    go (Ok None) h =
         let p : cs ≡ [] = cc (text_at s at h) in
         rw p h
-    go Bad h = clash (cc (text_at s at h))
+    go (Err x) h = clash (cc (text_at s at h, e))
 
 -- the same as a test: a text never meets a bad character, and what is left after one is text where it was before
-pub never-bad : (s : List ℕ) (at : ℕ) → is_text (drop at s) ≡ true → char_at s at ≡ Bad → ⊥
+pub never-bad : (s : List ℕ) (at : ℕ) → is_text (drop at s) ≡ true → char_at s at ≡ no_char → ⊥
 unfolding is_text
 never-bad s at e h = clash (cc (ap is_some (text_at s at h)))
 
-pub still-text : (s : List ℕ) (at : ℕ) {c next : ℕ} → char_at s at ≡ One c next → is_text (drop at s) ≡ is_text (drop next s)
+pub still-text : (s : List ℕ) (at : ℕ) {c next : ℕ} → char_at s at ≡ Ok (Some (c, next)) → is_text (drop at s) ≡ is_text (drop next s)
 unfolding is_text
 still-text s at {c} {next} h = ap is_some (text_at s at h) ∙ some-onto (text_of (drop next s))
   where

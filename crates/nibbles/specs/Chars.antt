@@ -1,9 +1,8 @@
 -- UTF-8 in pairs of hex nibbles: the bytes that a text spells, the character at a place, and the whole as characters. Assumes nothing: these are definitions.
-use Rattle.std.specs.Prelude.{Bool, true, false, List, [], ◌∷◌, ℕ, ◌+◌, ◌*◌, ◌<◌, ltb, eqb, length, drop}
+use Rattle.std.specs.Prelude.{Bool, true, false, List, [], ◌∷◌, ℕ, ◌+◌, ◌*◌, ◌<◌, ltb, eqb, length, drop, Option, Some, None, Result, Ok, Err}
 use Rattle.parser.specs.Digits.{if-then, digit_of}
 use Rattle.nibbles.specs.Utf8.{utf8, First, one, none, first, Text, text, no_text, decode}
-use Rattle.nibbles.specs.declared.text.Char.{Char}
-use Rattle.nibbles.specs.declared.text.Char.TheVariants.{One, End, Bad}
+use Rattle.nibbles.specs.declared.text.NotText.{NotText}
 
 -- pairs of nibbles that spell bytes, the first nibble of a pair the greater half. An upper-case letter is no nibble: it counts from 36
 pub data Spells : List ℕ → List ℕ → Type 0 where
@@ -20,16 +19,27 @@ octets (h ∷ l ∷ s) = if-then (ltb (digit_of h) 16) (if-then (ltb (digit_of l
 abbrev pub paired : List ℕ → Bool
 paired s = eqb (2 * length (octets s)) (length s)
 
--- two nibbles a byte
-abbrev pub found : First → ℕ → Char
-found (one c rest) at = One c (at + 2 * length (utf8 c))
-found none at = Bad
+-- a character and the next place: two nibbles a byte
+abbrev pub found : First → ℕ → Option (ℕ × ℕ)
+found (one c rest) at = Some (c, at + 2 * length (utf8 c))
+found none at = None
+
+-- what `char_at` answers: a character and the next place, or `Ok None`, the end of the text, or `Err`, no character
+abbrev pub Char : Type 0
+Char = Result (Option (ℕ × ℕ)) NotText
+
+abbrev pub no_char : Char
+no_char = Err (record {})
+
+abbrev pub char_of : Option (ℕ × ℕ) → Char
+char_of (Some p) = Ok (Some p)
+char_of None = no_char
 
 abbrev pub char_in : List ℕ → ℕ → Char
-char_in [] at = End
-char_in (b ∷ s) at = found (first (octets (b ∷ s))) at
+char_in [] at = Ok None
+char_in (b ∷ s) at = char_of (found (first (octets (b ∷ s))) at)
 
--- the character at a place and the next place; `End` where the text ends, `Bad` where no character stands
+-- the character at a place and the next place
 unfoldable pub char_at : List ℕ → ℕ → Char
 char_at s at = char_in (drop at s) at
 

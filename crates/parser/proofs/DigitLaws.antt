@@ -60,7 +60,7 @@ digit-62 c =
     (within-le 97 122 c _ _ 62 (λ h. omega arith) (within-le 65 90 c _ _ 62 (λ h. omega arith) (omega arith)))
 
 -- closes each return of a function that computes `digit_of`, in whatever order it tests
-pub ruleset digit-laws = (digit-0, digit-a, digit-A, below-0, below-A, below-a, above-z, rules)
+pub ruleset digit_laws = (digit-0, digit-a, digit-A, below-0, below-A, below-a, above-z, rules)
 
 -- ---- a run of digits
 pub digits-past : (b : ℕ) (s : List ℕ) (i : ℕ) → length s ≤ i → digits b (drop i s) ≡ []
@@ -97,7 +97,7 @@ module _ {b : ℕ} {s : List ℕ} {at i : ℕ} (r : Along b s at i) where
 pub along-start : (b : ℕ) (s : List ℕ) (at : ℕ) → Along b s at at
 along-start b s at = record { ends = refl }
 
-pub ruleset run-laws = (along-start, along-next, along-none, along-past, rules)
+pub ruleset run_laws = (along-start, along-next, along-none, along-past, rules)
 
 -- ---- the value of digits, with the number x of the digits before them
 abbrev pub onto : ℕ → ℕ → List ℕ → ℕ

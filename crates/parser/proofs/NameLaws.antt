@@ -1,4 +1,7 @@
 -- Identifiers: their bytes, the last `_` in them, and what `bytes`, `last_of`, `coded` and `ident` answer. Assumes nothing.
+use Rattle.parser.specs.Bytes.{read}
+use Rattle.std.specs.Prelude.{Option, Some, None}
+use Rattle.std.proofs.lemmas.Option.{some_pair_parts}
 use mathlib.Core.Path.{◌≡◌, refl, sym, ap, ◌∙◌}
 use mathlib.Core.Bool.{Bool, true, false}
 use mathlib.Core.List.{List, [], ◌∷◌, ◌++◌}
@@ -15,41 +18,28 @@ use lib.Seq.{take-suc, take-length, length-take-le}
 use Rattle.parser.specs.Digits.{if-then}
 use Rattle.parser.specs.Bytes.{past}
 use Rattle.parser.specs.Number.{length10}
-use Rattle.parser.specs.Names.{part_of, bytes_after, span_at, later_of, last_of, split_at, coded, coded_at, plain, ident_at}
-use Rattle.parser.specs.declared.number.Num.{Num}
-use Rattle.parser.specs.declared.number.Num.TheVariants.{Value, Invalid}
-use Rattle.parser.specs.declared.names.Span.{Span}
-use Rattle.parser.specs.declared.names.Span.TheVariants.{Part, Invalid as NoSpan}
-use Rattle.parser.specs.declared.names.Found.{Found}
-use Rattle.parser.specs.declared.names.Found.TheVariants.{At, Nothing}
+use Rattle.parser.specs.Names.{parts, part_of, bytes_after, span_at, later_of, last_of, split_at, coded, coded_at, plain, ident_at}
 use Rattle.parser.specs.declared.names.Name.{Name}
-use Rattle.parser.specs.declared.names.Name.TheVariants.{Parts, Invalid as NoName}
 
 -- ---- an identifier's bytes: v is what `length_10` answered, a what `eat` answered
-module _ (s : List ℕ) (at : ℕ) {v : Num} (answered : v ≡ length10 s at) where
-  pub bytes-none : v ≡ Invalid → NoSpan ≡ span_at s at
+module _ (s : List ℕ) (at : ℕ) {v : Option (ℕ × ℕ)} (answered : v ≡ length10 s at) where
+  pub bytes-none : v ≡ None → None ≡ span_at s at
   unfolding span_at bytes_after
   bytes-none k = rw (← answered, k)
 
-  module _ {n e a : ℕ} (known : v ≡ Value n e) (eaten : a ≡ past 95 s e) where
-    over : length s < a + n → NoSpan ≡ span_at s at
+  module _ {n e a : ℕ} (known : v ≡ Some (n, e)) (eaten : a ≡ past 95 s e) where
+    pub too-far : length s < a + n → None ≡ span_at s at
     unfolding span_at bytes_after part_of
-    over h = rw (← answered, known, ← eaten, lt-leb (a + n) (length s) h)
+    too-far h = rw (← answered, known, ← eaten, lt-leb (a + n) (length s) h)
 
-    pub bytes_past : length s < a → NoSpan ≡ span_at s at
-    bytes_past h = over (omega arith)
-
-    pub bytes-over : a ≤ length s → length s - a < n → NoSpan ≡ span_at s at
-    bytes-over h k = over (omega arith)
-
-    pub bytes-part : a ≤ length s → n ≤ length s - a → Part a (a + n) ≡ span_at s at
+    pub bytes-part : a ≤ length s → n ≤ length s - a → read a (a + n) ≡ span_at s at
     unfolding span_at bytes_after part_of
     bytes-part h k = rw (← answered, known, ← eaten, le-leb (a + n) (length s) (omega arith))
 
-pub ruleset bytes_laws = (bytes-none, bytes_past, bytes-over, bytes-part, rules)
+pub ruleset bytes_laws = (bytes-none, rules)
 
 -- ---- the last b
-later_same : (b : ℕ) (xs : List ℕ) (x : ℕ) → x ≡ b → last_of b (xs ++ (x ∷ [])) ≡ At (length xs)
+later_same : (b : ℕ) (xs : List ℕ) (x : ℕ) → x ≡ b → last_of b (xs ++ (x ∷ [])) ≡ Some (length xs)
 unfolding last_of later_of
 later_same b [] x h = rw (eq-eqb x b h)
 later_same b (y ∷ xs) x h = rw (later_same b xs x h, add-one)
@@ -79,83 +69,84 @@ module _ {b : ℕ} {t : List ℕ} {i : ℕ} (r : Tried b t i) where
   pub tried-more : 0 < i → (get_or t (i - 1) 0 ≡ b → ⊥) → Tried b t (i - 1)
   tried-more h n = record { within = omega (arith, r.within); same = sym (later-other b (take (i - 1) t) (get_or t (i - 1) 0) n) ∙ sym (ap (last_of b) (last_one h)) ∙ r.same }
 
-  pub tried-found : 0 < i → get_or t (i - 1) 0 ≡ b → At (i - 1) ≡ last_of b t
+  pub tried-found : 0 < i → get_or t (i - 1) 0 ≡ b → Some (i - 1) ≡ last_of b t
   tried-found h e =
-      ap At (sym (length-take-le (i - 1) t (omega (arith, r.within)))) ∙ sym (later_same b (take (i - 1) t) (get_or t (i - 1) 0) e) ∙ sym (ap (last_of b) (last_one h)) ∙ r.same
+      ap Some (sym (length-take-le (i - 1) t (omega (arith, r.within)))) ∙ sym (later_same b (take (i - 1) t) (get_or t (i - 1) 0) e) ∙ sym (ap (last_of b) (last_one h)) ∙ r.same
 
-  pub tried-all : i ≤ 0 → Nothing ≡ last_of b t
+  pub tried-all : i ≤ 0 → None ≡ last_of b t
   unfolding last_of
   tried-all h =
       let e : 0 ≡ i = omega arith in
       ap (λ (k : ℕ). last_of b (take k t)) e ∙ r.same
 
-pub ruleset last-laws = (tried-none, tried-more, tried-found, tried-all, tried-index, rules)
+pub ruleset last_laws = (tried-none, tried-more, tried-found, tried-all, tried-index, rules)
 
 -- ---- the bytes lie in the text, and the last b in the bytes
-part-of-within : (s : List ℕ) (b n : ℕ) {a e : ℕ} → Part a e ≡ part_of s b n → (a ≤ e) × (e ≤ length s)
+part-of-within : (s : List ℕ) (b n : ℕ) {a e : ℕ} → read a e ≡ part_of s b n → (a ≤ e) × (e ≤ length s)
 unfolding part_of
 part-of-within s b n {a} {e} q = go (leb (b + n) (length s)) refl q
   where
-    go : (t : Bool) → leb (b + n) (length s) ≡ t → Part a e ≡ if-then t (Part b (b + n)) NoSpan → (a ≤ e) × (e ≤ length s)
+    go : (t : Bool) → leb (b + n) (length s) ≡ t → read a e ≡ if-then t (read b (b + n)) None → (a ≤ e) × (e ≤ length s)
     go true h p =
-        let x : a ≡ b = cc in
-        let y : e ≡ b + n = cc in
+        let both = some_pair_parts a b e (b + n) p in
+        let x : a ≡ b = both.0 in
+        let y : e ≡ b + n = both.1 in
         let z : b + n ≤ length s = leb-true (b + n) (length s) h in
         (omega arith, omega arith)
     go false h p = absurd (let z : ◌≡◌ {A = ℕ} 0 1 = cc in omega arith)
 
-after-within : (s : List ℕ) (v : Num) {a e : ℕ} → Part a e ≡ bytes_after s v → (a ≤ e) × (e ≤ length s)
+after-within : (s : List ℕ) (v : Option (ℕ × ℕ)) {a e : ℕ} → read a e ≡ bytes_after s v → (a ≤ e) × (e ≤ length s)
 unfolding bytes_after
-after-within s (Value n i) q = part-of-within s (past 95 s i) n q
-after-within s Invalid q = absurd (let z : ◌≡◌ {A = ℕ} 0 1 = cc in omega arith)
+after-within s (Some (n, i)) q = part-of-within s (past 95 s i) n q
+after-within s None q = absurd (let z : ◌≡◌ {A = ℕ} 0 1 = cc in omega arith)
 
-pub span-within : (s : List ℕ) (at : ℕ) {a e : ℕ} → Part a e ≡ span_at s at → (a ≤ e) × (e ≤ length s)
+pub span-within : (s : List ℕ) (at : ℕ) {a e : ℕ} → read a e ≡ span_at s at → (a ≤ e) × (e ≤ length s)
 unfolding span_at
 span-within s at q = after-within s (length10 s at) q
 
-later-within : (n i : ℕ) (f : Found) → ((j : ℕ) → At j ≡ f → j < n) → (t : Bool) → At i ≡ later_of f (if-then t (At 0) Nothing) → i < suc n
+later-within : (n i : ℕ) (f : Option ℕ) → ((j : ℕ) → Some j ≡ f → j < n) → (t : Bool) → Some i ≡ later_of f (if-then t (Some 0) None) → i < suc n
 unfolding later_of
-later-within n i (At k) r t p = let e : i ≡ k + 1 = cc in omega (arith, r k refl)
-later-within n i Nothing r true p = let e : i ≡ 0 = cc in omega arith
-later-within n i Nothing r false p = absurd (let z : ◌≡◌ {A = ℕ} 0 1 = cc in omega arith)
+later-within n i (Some k) r t p = let e : i ≡ k + 1 = cc in omega (arith, r k refl)
+later-within n i None r true p = let e : i ≡ 0 = cc in omega arith
+later-within n i None r false p = absurd (let z : ◌≡◌ {A = ℕ} 0 1 = cc in omega arith)
 
-pub last_within : (b : ℕ) (t : List ℕ) (i : ℕ) → At i ≡ last_of b t → i < length t
+pub last_within : (b : ℕ) (t : List ℕ) (i : ℕ) → Some i ≡ last_of b t → i < length t
 unfolding last_of
 last_within b [] i q = absurd (let z : ◌≡◌ {A = ℕ} 0 1 = cc in omega arith)
 last_within b (x ∷ xs) i q = later-within (length xs) i (last_of b xs) (last_within b xs) (eqb x b) q
 
 -- ---- an identifier behind its `u`: n is what `bytes` answered, f what `last_of` answered
-module _ (s : List ℕ) (at : ℕ) {n : Span} (answered : n ≡ span_at s at) where
-  pub coded_none : n ≡ NoSpan → NoName ≡ coded_at s at
+module _ (s : List ℕ) (at : ℕ) {n : Option (ℕ × ℕ)} (answered : n ≡ span_at s at) where
+  pub coded_none : n ≡ None → None ≡ coded_at s at
   unfolding coded_at coded
   coded_none k = rw (← answered, k)
 
-  module _ {a e : ℕ} (known : n ≡ Part a e) where
+  module _ {a e : ℕ} (known : n ≡ Some (a, e)) where
     pub part-order : a ≤ e
     part-order = (span-within s at (sym known ∙ answered)).0
 
     pub part_end : e ≤ length s
     part_end = (span-within s at (sym known ∙ answered)).1
 
-    module _ {f : Found} (found : f ≡ last_of 95 (take (e - a) (drop a s))) where
+    module _ {f : Option ℕ} (found : f ≡ last_of 95 (take (e - a) (drop a s))) where
       is : coded_at s at ≡ split_at a e f
       unfolding coded_at coded
       is = rw (← answered, known, ← found)
 
-      pub coded-bare : f ≡ Nothing → a ≡ e → NoName ≡ coded_at s at
+      pub coded-bare : f ≡ None → a ≡ e → None ≡ coded_at s at
       unfolding split_at
       coded-bare k q = rw (is, k, eq-eqb a e q)
 
-      pub coded-whole : f ≡ Nothing → (a ≡ e → ⊥) → Parts a a a e ≡ coded_at s at
+      pub coded-whole : f ≡ None → (a ≡ e → ⊥) → Some (parts a a a e) ≡ coded_at s at
       unfolding split_at
       coded-whole k q = rw (is, k, ne_eqb a e q)
 
-      module _ {i : ℕ} (k : f ≡ At i) where
-        pub coded-empty : a + i + 1 ≡ e → NoName ≡ coded_at s at
+      module _ {i : ℕ} (k : f ≡ Some i) where
+        pub coded-empty : a + i + 1 ≡ e → None ≡ coded_at s at
         unfolding split_at
         coded-empty q = rw (is, k, eq-eqb (a + i + 1) e q)
 
-        pub coded-split : (a + i + 1 ≡ e → ⊥) → Parts a (a + i) (a + i + 1) e ≡ coded_at s at
+        pub coded-split : (a + i + 1 ≡ e → ⊥) → Some (parts a (a + i) (a + i + 1) e) ≡ coded_at s at
         unfolding split_at
         coded-split q = rw (is, k, ne_eqb (a + i + 1) e q)
 
@@ -170,21 +161,21 @@ module _ (s : List ℕ) (at : ℕ) {n : Span} (answered : n ≡ span_at s at) wh
         pub next_fits : length s < 2 ^ 64 → Fits w64 (a + i + 1)
         next_fits l = omega (arith, within l)
 
-pub ruleset coded-laws = (coded_none, part-order, part_end, coded-bare, coded-whole, coded-empty, coded-split, sum_fits, next_fits, rules)
+pub ruleset coded_laws = (coded_none, part-order, part_end, coded-bare, coded-whole, coded-empty, coded-split, sum_fits, next_fits, rules)
 
 -- ---- an identifier: m is what `eat` answered, n what `bytes` answered
 module _ (s : List ℕ) (at : ℕ) {m : ℕ} (eaten : m ≡ past 117 s at) where
-  pub ident-coded : {r : Name} → (m ≡ at → ⊥) → r ≡ coded_at s m → r ≡ ident_at s at
+  pub ident-coded : {r : Option Name} → (m ≡ at → ⊥) → r ≡ coded_at s m → r ≡ ident_at s at
   unfolding ident_at
   ident-coded h k = rw (ne_eqb (past 117 s at) at (λ e. h (eaten ∙ e)), ← eaten) k
 
-  module _ (same : m ≡ at) {n : Span} (answered : n ≡ span_at s at) where
-    pub ident-none : n ≡ NoSpan → NoName ≡ ident_at s at
+  module _ (same : m ≡ at) {n : Option (ℕ × ℕ)} (answered : n ≡ span_at s at) where
+    pub ident-none : n ≡ None → None ≡ ident_at s at
     unfolding ident_at plain
     ident-none k = rw (eq-eqb (past 117 s at) at (sym eaten ∙ same), ← answered, k)
 
-    pub ident-plain : {a e : ℕ} → n ≡ Part a e → Parts a e e e ≡ ident_at s at
+    pub ident-plain : {a e : ℕ} → n ≡ Some (a, e) → Some (parts a e e e) ≡ ident_at s at
     unfolding ident_at plain
     ident-plain k = rw (eq-eqb (past 117 s at) at (sym eaten ∙ same), ← answered, k)
 
-pub ruleset ident-laws = (ident-coded, ident-none, ident-plain, rules)
+pub ruleset ident_laws = (ident-coded, ident-none, ident-plain, rules)

@@ -1,4 +1,5 @@
 -- A number that is being read, over any base: what a loop that takes a digit a turn keeps. Assumes nothing.
+use Rattle.parser.specs.Number.{fits, over}
 use mathlib.Core.Path.{◌≡◌, refl, sym, ap, ◌∙◌}
 use mathlib.Core.List.{List, [], ◌∷◌}
 use Prim.Native.Nat.{ℕ, ◌+◌, ◌-◌, ◌*◌, ◌/◌, ◌^◌, ◌≤◌, ◌<◌}
@@ -11,7 +12,6 @@ use borrow.Author.Tests.{lt-ltb, le-ltb}
 use lib.ListN.{length, get_or, drop}
 use Rattle.parser.specs.Digits.{digit_of, digits, value}
 use Rattle.parser.specs.Number.{number_at}
-use Rattle.parser.specs.declared.number.Run.TheVariants.{Fits, Over}
 use Rattle.parser.proofs.DigitLaws.{Along, along-next, along-none, along-past, digit-62, digits_more, digits-none, digits-past, onto, onto-none, onto-nil, onto-more, onto-le}
 
 -- the accumulating step stays below 2 ^ 64 just where this test says so
@@ -38,21 +38,21 @@ module _ {b : ℕ} {s : List ℕ} {at x i : ℕ} (r : Reading b s at x i) where
       let more : digits b (drop i s) ≡ d ∷ digits b (drop (i + 1) s) = rw e (digits_more b s i h (rw e at k)) in
       sym (onto-more b x d (digits b (drop (i + 1) s))) ∙ sym (ap (onto b x) more) ∙ r.number
 
-  ended : digits b (drop i s) ≡ [] → i ≡ at + length (digits b (drop at s)) → Fits x i ≡ number_at b s at
+  ended : digits b (drop i s) ≡ [] → i ≡ at + length (digits b (drop at s)) → fits x i ≡ number_at b s at
   unfolding number_at
   ended none e =
       let v : value b (digits b (drop at s)) ≡ x = sym r.number ∙ ap (onto b x) none ∙ onto-nil b x in
       rw (v, ← e, lt-ltb x (2 ^ 64) r.small)
 
-  pub none : {d : ℕ} → d ≡ digit_of (get_or s i 0) → b ≤ d → Fits x i ≡ number_at b s at
+  pub none : {d : ℕ} → d ≡ digit_of (get_or s i 0) → b ≤ d → fits x i ≡ number_at b s at
   none e h = ended (digits-none b s i (omega arith)) (along-none r.along e h)
 
-  pub past : length s ≤ i → Fits x i ≡ number_at b s at
+  pub past : length s ≤ i → fits x i ≡ number_at b s at
   past h = ended (digits-past b s i h) (along-past r.along h)
 
-  over : {d e : ℕ} → i < length s → d ≡ digit_of (get_or s i 0) → d < b → 2 ^ 64 ≤ x * b + d → e ≡ i + length (digits b (drop i s)) → Over e ≡ number_at b s at
+  passes : {d e : ℕ} → i < length s → d ≡ digit_of (get_or s i 0) → d < b → 2 ^ 64 ≤ x * b + d → e ≡ i + length (digits b (drop i s)) → over e ≡ number_at b s at
   unfolding number_at
-  over {d} h q k big p =
+  passes {d} h q k big p =
       let v : 2 ^ 64 ≤ value b (digits b (drop at s)) = omega (arith, turn h q k, onto-le b (x * b + d) (digits b (drop (i + 1) s)) (omega arith)) in
       rw (le-ltb _ _ v, p, r.along.ends)
 
@@ -67,8 +67,8 @@ module _ {b : ℕ} {s : List ℕ} {at x i : ℕ} (r : Reading b s at x i) {d : �
   pub room_fits : d ≤ 0xffff_ffff_ffff_ffff
   room_fits = few
 
-  pub at-over : {e : ℕ} → (0xffff_ffff_ffff_ffff - d) / b < x → i < length s → e ≡ i + length (digits b (drop i s)) → Over e ≡ number_at b s at
-  at-over h k p = over r k counts small (step-over {b = b} {x = x} {d = d} (omega arith) few h) p
+  pub at-over : {e : ℕ} → (0xffff_ffff_ffff_ffff - d) / b < x → i < length s → e ≡ i + length (digits b (drop i s)) → over e ≡ number_at b s at
+  at-over h k p = passes r k counts small (step-over {b = b} {x = x} {d = d} (omega arith) few h) p
 
   module _ (room : x ≤ (0xffff_ffff_ffff_ffff - d) / b) where
     stays : x * b + d ≤ 0xffff_ffff_ffff_ffff
@@ -83,4 +83,4 @@ module _ {b : ℕ} {s : List ℕ} {at x i : ℕ} (r : Reading b s at x i) {d : �
     pub at_next : i < length s → Reading b s at (x * b + d) (i + 1)
     at_next k = record { along = along-next r.along k counts small; number = turn r k counts small; small = omega (arith, stays) }
 
-pub ruleset number-laws = (start, none, past, room_fits, base-positive, at-over, product-fits, sum_fits, at_next, rules)
+pub ruleset number_laws = (start, none, past, room_fits, base-positive, at-over, product-fits, sum_fits, at_next, rules)

@@ -3,91 +3,78 @@ ghost use Rattle.std.specs.Prelude.{◌≡◌};
 ghost use Rattle.parser.specs.Names.{span_at, last_of, coded_at, ident_at};
 
 use crate::bytes::eat;
-use crate::number::{Num, length_10};
+use crate::number::length_10;
 
-// A span of bytes: its first place, and the place after it.
-#[derive(Drop)]
-pub enum Span {
-    Part(usize, usize),
-    Invalid,
+// An identifier: its ASCII part from `start` to `split`, its Punycode from `code` to `end`, which is the next place. Without Punycode the
+// last three are one, and no `Option` stands in the place of two: every definition of a name has four places.
+#[derive(Clone, Copy, Debug, PartialEq, Eq)]
+pub struct Name {
+    pub start: usize,
+    pub split: usize,
+    pub code: usize,
+    pub end: usize,
 }
 
-// The place of a byte.
-#[derive(Drop)]
-pub enum Found {
-    At(usize),
-    Nothing,
-}
-
-// An identifier: its ASCII part from the first place to the second, its Punycode from the third to the fourth, which is the
-// next place. Without Punycode the last three are one.
-#[derive(Drop)]
-pub enum Name {
-    Parts(usize, usize, usize, usize),
-    Invalid,
-}
-
-// A length, an optional `_`, and that many bytes.
-pub fn bytes(s: &[u8], at: usize) -> Span
+// A length, an optional `_`, and that many bytes: the first place and the place after them.
+#[tactic(auto, using(crate::proofs::NameLaws::bytes_laws))]
+pub fn bytes(s: &[u8], at: usize) -> Option<(usize, usize)>
     ensures { result ≡ span_at s.now at }
 {
-    let Num::Value(n, e) = length_10(s, at) else {
-        return Span::Invalid;
-    };
+    let (n, e) = length_10(s, at)?;
     let a = eat(s, e, b'_');
-    if a > s.len() {
-        return Span::Invalid;
+    if a > s.len() || n > (s.len() - a) as u64 {
+        return None;
     }
-    if n > (s.len() - a) as u64 {
-        return Span::Invalid;
-    }
-    Span::Part(a, a + n as usize)
+    Some((a, a + n as usize))
 }
 
 // The place of the last b.
-pub fn last_of(t: &[u8], b: u8) -> Found
+#[tactic(auto, using(crate::proofs::NameLaws::last_laws))]
+pub fn last_of(t: &[u8], b: u8) -> Option<usize>
     ensures { result ≡ last_of b t.now }
 {
-    let mut i = t.len();
-    while i > 0 {
-        i -= 1;
+    for i in (0..t.len()).rev() {
         if t[i] == b {
-            return Found::At(i);
+            return Some(i);
         }
     }
-    Found::Nothing
+    None
 }
 
 // An identifier behind its `u`: the last `_` of its bytes splits them, and what is after it is not empty.
-fn coded(s: &[u8], at: usize) -> Name
+#[tactic(auto, using(crate::proofs::NameLaws::coded_laws))]
+fn coded(s: &[u8], at: usize) -> Option<Name>
     ensures { result ≡ coded_at s.now at }
 {
-    let Span::Part(a, e) = bytes(s, at) else {
-        return Name::Invalid;
+    let (start, end) = bytes(s, at)?;
+    let (split, code) = match last_of(&s[start..end], b'_') {
+        Some(i) => (start + i, start + i + 1),
+        None => (start, start),
     };
-    let Found::At(i) = last_of(&s[a..e], b'_') else {
-        if a == e {
-            return Name::Invalid;
-        }
-        return Name::Parts(a, a, a, e);
-    };
-    let m = a + i;
-    let k = m + 1;
-    if k == e {
-        return Name::Invalid;
+    if code == end {
+        return None;
     }
-    Name::Parts(a, m, k, e)
+    Some(Name {
+        start,
+        split,
+        code,
+        end,
+    })
 }
 
-pub fn ident(s: &[u8], at: usize) -> Name
+#[tactic(auto, using(crate::proofs::NameLaws::ident_laws))]
+pub fn ident(s: &[u8], at: usize) -> Option<Name>
     ensures { result ≡ ident_at s.now at }
 {
     let behind = eat(s, at, b'u');
     if behind != at {
         return coded(s, behind);
     }
-    let Span::Part(a, e) = bytes(s, at) else {
-        return Name::Invalid;
-    };
-    Name::Parts(a, e, e, e)
+    let (start, end) = bytes(s, at)?;
+    Some(Name {
+        start,
+        split: end,
+        code: end,
+        end,
+    })
 }

@@ -5,182 +5,128 @@ ghost use Rattle.parser.specs.Number.{digit_at, number_at, integer62, optional62
 
 use crate::bytes::{eat, peek};
 
-// A run of digits: the value where it fits 64 bits, and the place after the last digit.
-#[derive(Drop)]
-pub enum Run {
-    Fits(u64, usize),
-    Over(usize),
-}
-
-// A number and the next place.
-#[derive(Drop)]
-pub enum Num {
-    Value(u64, usize),
-    Invalid,
-}
-
-// Hex nibbles: where they end, at a `_`, and the next place.
-#[derive(Drop)]
-pub enum Nibbles {
-    To(usize, usize),
-    Invalid,
-}
-
-// A back reference: the place that it leads to, and the next place.
-#[derive(Drop)]
-pub enum Back {
-    Target(usize, usize),
-    Invalid,
-}
-
-// What a byte counts as a digit, and 62 if it is none.
+// What a byte counts as a digit, and 62 if it is none: no `Option`, since this cannot fail and still must not, and `digit_of`, of which the
+// grammar is made, is that number.
+#[tactic(auto, using(crate::proofs::DigitLaws::digit_laws))]
 pub fn digit(c: u8) -> u64
     ensures { result ≡ digit_of c }
 {
     match c {
-        b'0'..=b'9' => (c - 48) as u64,
-        b'a'..=b'z' => (c - 87) as u64,
-        b'A'..=b'Z' => (c - 29) as u64,
+        b'0'..=b'9' => u64::from(c - b'0'),
+        b'a'..=b'z' => u64::from(c - 87),
+        b'A'..=b'Z' => u64::from(c - 29),
         _ => 62,
     }
 }
 
-// The digit of a base at a place.
-fn digit_at(s: &[u8], at: usize, base: u64) -> Num
+// The digit of a base at a place, and the next place.
+#[tactic(auto, using(crate::proofs::ReaderLaws::digit_at_laws))]
+pub fn digit_at(s: &[u8], at: usize, base: u64) -> Option<(u64, usize)>
     ensures { result ≡ digit_at base s.now at }
 {
     if at >= s.len() {
-        return Num::Invalid;
+        return None;
     }
     let d = digit(s[at]);
-    if d >= base {
-        return Num::Invalid;
-    }
-    Num::Value(d, at + 1)
-}
-
-pub fn digit_10(s: &[u8], at: usize) -> Num
-    ensures { result ≡ digit_at 10 s.now at }
-{
-    digit_at(s, at, 10)
-}
-
-pub fn digit_62(s: &[u8], at: usize) -> Num
-    ensures { result ≡ digit_at 62 s.now at }
-{
-    digit_at(s, at, 62)
+    if d < base { Some((d, at + 1)) } else { None }
 }
 
 // The place after the digits of a base that stand at a place.
+#[tactic(auto, using(crate::proofs::DigitLaws::run_laws))]
 pub fn run_end(s: &[u8], at: usize, base: u64) -> usize
     ensures { result ≡ at + length (digits base (drop at s.now)) }
 {
-    let mut i = at;
-    while i < s.len() {
-        let d = digit(s[i]);
-        if d >= base {
+    for i in at..s.len() {
+        if digit(s[i]) >= base {
             return i;
         }
-        i += 1;
     }
-    i
+    at.max(s.len())
 }
 
-// The number that stands at a place in a base.
-pub fn number(s: &[u8], at: usize, base: u64) -> Run
+// The number that stands at a place in a base, and the place after its digits: that alone where it does not fit 64 bits. What the loop keeps
+// is a record, which `using` does not close by (tried), so three goals have answers that search.
+#[tactic(auto, using(crate::proofs::ReadingLaws::number_laws))]
+pub fn number(s: &[u8], at: usize, base: u64) -> Result<(u64, usize), usize>
     ensures { result ≡ number_at base s.now at }
 {
     let mut x: u64 = 0;
-    let mut i = at;
-    while i < s.len() {
+    for i in at..s.len() {
         let d = digit(s[i]);
         if d >= base {
-            return Run::Fits(x, i);
+            return Ok((x, i));
         }
-        if x > (0xffff_ffff_ffff_ffff - d) / base {
-            return Run::Over(run_end(s, i, base));
+        if x > (u64::MAX - d) / base {
+            return Err(run_end(s, i, base));
         }
         x = x * base + d;
-        i += 1;
     }
-    Run::Fits(x, i)
+    Ok((x, at.max(s.len())))
 }
 
 // A base-62 number.
-pub fn integer_62(s: &[u8], at: usize) -> Num
+#[tactic(auto, using(crate::proofs::ReaderLaws::integer_laws))]
+pub fn integer_62(s: &[u8], at: usize) -> Option<(u64, usize)>
     ensures { result ≡ integer62 s.now at }
 {
     if peek(s, at) == b'_' {
-        return Num::Value(0, at + 1);
+        return Some((0, at + 1));
     }
-    let Run::Fits(x, e) = number(s, at, 62) else {
-        return Num::Invalid;
+    let Ok((x, e)) = number(s, at, 62) else {
+        return None;
     };
-    if peek(s, e) != b'_' {
-        return Num::Invalid;
+    if peek(s, e) != b'_' || x == u64::MAX {
+        return None;
     }
-    if x == 0xffff_ffff_ffff_ffff {
-        return Num::Invalid;
-    }
-    Num::Value(x + 1, e + 1)
+    Some((x + 1, e + 1))
 }
 
-// A tag and a base-62 number, one more; 0 where the tag is absent.
-pub fn opt_integer_62(s: &[u8], at: usize, tag: u8) -> Num
+// A tag and a base-62 number, one more; 0 where the tag is absent, which is a value and no refusal: RFC 2603 has the number so.
+#[tactic(auto, using(crate::proofs::ReaderLaws::optional_laws))]
+pub fn opt_integer_62(s: &[u8], at: usize, tag: u8) -> Option<(u64, usize)>
     ensures { result ≡ optional62 tag s.now at }
 {
     let behind = eat(s, at, tag);
     if behind == at {
-        return Num::Value(0, at);
+        return Some((0, at));
     }
-    let Num::Value(x, e) = integer_62(s, behind) else {
-        return Num::Invalid;
-    };
-    if x == 0xffff_ffff_ffff_ffff {
-        return Num::Invalid;
-    }
-    Num::Value(x + 1, e)
+    let (x, e) = integer_62(s, behind)?;
+    Some((x.checked_add(1)?, e))
 }
 
 // The decimal length of an identifier.
-pub fn length_10(s: &[u8], at: usize) -> Num
+#[tactic(auto, using(crate::proofs::ReaderLaws::length_laws))]
+pub fn length_10(s: &[u8], at: usize) -> Option<(u64, usize)>
     ensures { result ≡ length10 s.now at }
 {
-    let Num::Value(d, behind) = digit_10(s, at) else {
-        return Num::Invalid;
-    };
+    let (d, behind) = digit_at(s, at, 10)?;
     if d == 0 {
-        return Num::Value(0, behind);
+        return Some((0, behind));
     }
-    let Run::Fits(x, e) = number(s, at, 10) else {
-        return Num::Invalid;
-    };
-    Num::Value(x, e)
+    number(s, at, 10).ok()
 }
 
-// Hex nibbles up to a `_`.
-pub fn hex_nibbles(s: &[u8], at: usize) -> Nibbles
+// Hex nibbles up to a `_`: where they end, and the next place.
+#[tactic(auto, using(crate::proofs::ReaderLaws::hex_laws))]
+pub fn hex_nibbles(s: &[u8], at: usize) -> Option<(usize, usize)>
     ensures { result ≡ hex_at s.now at }
 {
     let e = run_end(s, at, 16);
-    if peek(s, e) != b'_' {
-        return Nibbles::Invalid;
+    if peek(s, e) == b'_' {
+        Some((e, e + 1))
+    } else {
+        None
     }
-    Nibbles::To(e, e + 1)
 }
 
-// The number of a back reference, behind its `B`: what it leads to is before the `B`.
-pub fn backref(s: &[u8], at: usize) -> Back
+// The number of a back reference, behind its `B`: the place that it leads to, which is before the `B`, and the next place.
+#[tactic(auto, using(crate::proofs::ReaderLaws::back_laws))]
+pub fn backref(s: &[u8], at: usize) -> Option<(usize, usize)>
     ensures { result ≡ back_at s.now at }
 {
-    let Num::Value(v, e) = integer_62(s, at) else {
-        return Back::Invalid;
-    };
-    if at == 0 {
-        return Back::Invalid;
+    let (v, e) = integer_62(s, at)?;
+    if at == 0 || v >= (at - 1) as u64 {
+        return None;
     }
-    if v >= (at - 1) as u64 {
-        return Back::Invalid;
-    }
-    Back::Target(v as usize, e)
+    Some((v as usize, e))
 }

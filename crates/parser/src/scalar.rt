@@ -2,14 +2,9 @@
 ghost use Rattle.std.specs.Prelude.{◌≡◌};
 ghost use Rattle.parser.specs.Scalar.{is_scalar};
 
+#[tactic(auto, using(crate::proofs::ScalarLaws::scalar_laws))]
 pub fn is_scalar(v: u64) -> bool
     ensures { result ≡ is_scalar v }
 {
-    if v < 0xd800 {
-        return true;
-    }
-    if v < 0xe000 {
-        return false;
-    }
-    v < 0x11_0000
+    matches!(v, 0..=0xd7ff | 0xe000..=0x10_ffff)
 }

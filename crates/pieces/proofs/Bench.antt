@@ -8,7 +8,7 @@ use Rattle.nibbles.specs.Utf8.{utf8, encoded}
 use Rattle.punycode.specs.Decode.{puny_digit, threshold_of, delta_of, lowered, adapted, turn_of, insert_at, round_of, rounds}
 use Rattle.punycode.specs.Answer.{decoded}
 use Rattle.pieces.specs.Laid.{laid}
-use Rattle.pieces.specs.Words.{ascii, words, word_at}
+use Rattle.pieces.specs.Words.{ascii}
 use Rattle.pieces.specs.Numeral.{numeral_in, numeral, decimal, hex_digit, hexadecimal, hash_text, depth_text, life_text}
 use Rattle.pieces.specs.Basic.{basic, name_in, basic_name}
 use Rattle.pieces.specs.Quoted.{unicode, other, unquoted, escaped, escaped_all, quoted}
@@ -41,5 +41,5 @@ lines =
     (laid (decimal 12345) (0 ∷ 0 ∷ 0 ∷ []), ascii "123") ∷ []
 
 right : map (λ l. l.0) lines ≡ map (λ l. l.1) lines
-unfolding lines ascii words word_at numeral_in numeral decimal hex_digit hexadecimal hash_text depth_text life_text basic name_in basic_name unicode other unquoted escaped escaped_all quoted basic_part parts raw_name shown_name name_text abi_text laid utf8 encoded decoded rounds round_of insert_at turn_of adapted lowered delta_of threshold_of puny_digit within is_scalar
+unfolding lines ascii numeral_in numeral decimal hex_digit hexadecimal hash_text depth_text life_text basic name_in basic_name unicode other unquoted escaped escaped_all quoted basic_part parts raw_name shown_name name_text abi_text laid utf8 encoded decoded rounds round_of insert_at turn_of adapted lowered delta_of threshold_of puny_digit within is_scalar
 right = refl

@@ -1,63 +1,81 @@
 -- Identifiers: characters as UTF-8, and a name in its three forms. Assumes nothing.
 use mathlib.Core.Path.{◌≡◌, refl}
 use mathlib.Core.List.{List, [], ◌∷◌, ◌++◌}
-use Prim.Native.Nat.{ℕ, zero, suc, ◌+◌, ◌-◌, ◌/◌, ◌≤◌, ◌<◌}
+use Prim.Native.Nat.{ℕ, zero, suc, ◌+◌, ◌-◌, ◌≤◌, ◌<◌}
 use native.Mathlib.Omega.{arith}
 use native.Mathlib.Numerals.{add-one}
 use borrow.Author.Rules.{rules}
-use borrow.Author.Tests.{le-leb, lt-leb}
+use borrow.Author.Tests.{le-leb, lt-leb, ltb-false}
 use mir.Val.{Fits}
 use mir.Syntax.{w8}
 use lib.ListN.{length, get_or, take, drop, length-drop, drop_of_length-le}
 use lib.Seq.{take_all, drop-cons, length-take-le}
-use Rattle.nibbles.specs.Utf8.{cont, utf8, encoded, Scalars}
-use Rattle.nibbles.proofs.Utf8Laws.{utf8-one, utf8-two, utf8-three, utf8-four, scalar_below}
+use Rattle.nibbles.specs.Utf8.{utf8, encoded, Scalars}
+use Rattle.nibbles.proofs.Utf8Laws.{utf8-one}
 use Rattle.punycode.specs.Answer.{most, decoded, shown, count_of}
-use Rattle.punycode.specs.declared.Decoded.{Decoded}
-use Rattle.punycode.specs.declared.Decoded.TheVariants.{Chars, Long, Broken}
-use Rattle.pieces.specs.Laid.{Wrote}
+use Rattle.punycode.specs.declared.DecodeError.{DecodeError}
+use Rattle.punycode.specs.declared.DecodeError.TheVariants.{Long, Broken}
+use Rattle.std.specs.Prelude.{Result, Ok, Err, Option, Some, None, SomeIff, IsSome}
+use Rattle.std.specs.Char.{IsScalar}
+use Rattle.parser.specs.Digits.{if-then}
+use Rattle.parser.specs.Scalar.{is_scalar}
+use mathlib.Core.Bool.{Bool, true, false, cond, ◌&&◌}
+use lib.Dec.{ltb, leb}
+use lib.Utf8.{scalar, encode}
+use Rattle.pieces.specs.Laid.{Put, Wrote}
 use Rattle.pieces.specs.Names.{basic_part, parts, raw_name, shown_name, name_text}
-use Rattle.pieces.specs.declared.put.Put.{Put}
-use Rattle.pieces.specs.declared.put.Put.TheVariants.{Done}
 use Rattle.pieces.proofs.ScalarLaws.{scalar-at, decoded-scalars}
-use Rattle.pieces.proofs.WritingLaws.{wrote_none, piece-laws, Going, going_end, loop-laws}
+use Rattle.pieces.proofs.WritingLaws.{clash, wrote_none, piece-laws, Going, going_end, loop-laws}
 
--- ---- a character as UTF-8
-module _ (c : ℕ) {d e : List ℕ} {r : Put} where
-  pub one_byte : c < 0x80 → Wrote (c ∷ []) d e r → Wrote (utf8 c) d e r
+-- ---- a character as UTF-8, by the library's encoding
+module _ (c : ℕ) where
+  same : encode c ≡ utf8 c
+  unfolding encode utf8
+  same = go (ltb c 0x80) (ltb c 0x800) (ltb c 0x10000) _ _ _ _
+    where
+      go : (x y z : Bool) (k l m n : List ℕ) → cond x k (cond y l (cond z m n)) ≡ if-then x k (if-then y l (if-then z m n))
+      go true y z k l m n = refl
+      go false true z k l m n = refl
+      go false false true k l m n = refl
+      go false false false k l m n = refl
+
+  pub one_byte : {d e : List ℕ} {r : Put} → c < 0x80 → Wrote (c ∷ []) d e r → Wrote (utf8 c) d e r
   one_byte h w = rw (utf8-one c h) w
 
-  pub two_bytes : 0x80 ≤ c → c < 0x800 → Wrote ((0xC0 + c / 64) ∷ cont c ∷ []) d e r → Wrote (utf8 c) d e r
-  two_bytes l h w = rw (utf8-two c l h) w
+  pub scalar_char : is_scalar c ≡ true → scalar c ≡ true
+  unfolding is_scalar
+  scalar_char h = go (ltb c 0xD800) (ltb c 0xE000) refl h
+    where
+      go : (x y : Bool) → ltb c 0xE000 ≡ y → if-then x true (if-then y false (ltb c 0x110000)) ≡ true → cond x true (leb 0xE000 c && ltb c 0x110000) ≡ true
+      go true y e k = refl
+      go false true e k = clash (cc)
+      go false false e k = rw (le-leb 0xE000 c (ltb-false c 0xE000 e)) k
 
-  pub three-bytes : 0x800 ≤ c → c < 0x10000 → Wrote ((0xE0 + c / 4096) ∷ cont (c / 64) ∷ cont c ∷ []) d e r → Wrote (utf8 c) d e r
-  three-bytes l h w = rw (utf8-three c l h) w
+  -- o is what `from_u32` answered
+  module _ (h : is_scalar c ≡ true) (o : Option ℕ) (made : SomeIff o (IsScalar c) c) where
+    pub some_char : IsSome o
+    some_char = go o made
+      where
+        go : (o : Option ℕ) → SomeIff o (IsScalar c) c → IsSome o
+        go (Some x) k = refl
+        go None k = absurd (k (scalar_char h))
 
-  pub four_bytes : 0x10000 ≤ c → Wrote ((0xF0 + c / 262144) ∷ cont (c / 4096) ∷ cont (c / 64) ∷ cont c ∷ []) d e r → Wrote (utf8 c) d e r
-  four_bytes l w = rw (utf8-four c l) w
+    pub as_utf8 : {x : ℕ} {t u d e : List ℕ} {r : Put} → o ≡ Some x → t ≡ encode x → u ≡ t → Wrote u d e r → Wrote (utf8 c) d e r
+    as_utf8 {x} q s v w = let n : x ≡ c = (rw q at made).1 in rw (v, s, n, same) at w
 
-pub ruleset utf8-laws = (one_byte, two_bytes, three-bytes, four_bytes, rules)
+pub ruleset utf8-laws = (one_byte, some_char, as_utf8, rules)
 
 -- ---- characters, from place to place
 module _ (s : List ℕ) (i : ℕ) (h : i < length s) where
-  pub small : Scalars s → get_or s i 0 ≤ 0x10ffff
-  small g = omega (arith, scalar_below (get_or s i 0) (scalar-at s i g h))
-
   pub chars-left : encoded (drop i s) ≡ utf8 (get_or s i 0) ++ encoded (drop (i + 1) s)
   unfolding encoded
   chars-left = rw (add-one, drop-cons s i 0 h)
 
-pub chars-end : (s : List ℕ) (i : ℕ) {whole d e : List ℕ} {w : ℕ} → Going whole (encoded (drop i s)) d e w → length s ≤ i → Wrote whole d e (Done w)
+pub chars-end : (s : List ℕ) (i : ℕ) {whole d e : List ℕ} {w : ℕ} → Going whole (encoded (drop i s)) d e w → length s ≤ i → Wrote whole d e (Ok w)
 unfolding encoded
 chars-end s i g h = going_end g (rw (drop_of_length-le s {i = i} h) refl)
 
-pub ruleset encoded-laws = (small, chars-left, chars-end, loop-laws)
-
--- the first n of the places
-pub places-size : (l : List ℕ) (n m : ℕ) → length l ≡ m → n ≤ m → length (take n l) ≡ n
-places-size l n m e h = length-take-le n l (omega arith)
-
-pub ruleset decoded-laws = (places-size, rules)
+pub ruleset encoded-laws = (scalar-at, chars-left, chars-end, loop-laws)
 
 -- ---- a name that is shown raw
 -- a part of a slice to its end
@@ -65,7 +83,7 @@ tail-is : (s : List ℕ) (a : ℕ) → take (length s - a) (drop a s) ≡ drop a
 tail-is s a = take_all (length s - a) (drop a s) (omega (arith, length-drop a s))
 
 module _ (s : List ℕ) (a : ℕ) {d : List ℕ} where
-  pub basic-none : a ≡ 0 → Wrote (basic_part (take a s)) d d (Done 0)
+  pub basic-none : a ≡ 0 → Wrote (basic_part (take a s)) d d (Ok 0)
   unfolding basic_part
   basic-none z = rw z (wrote_none d)
 
@@ -92,25 +110,25 @@ module _ (ascii code : ℕ) (s : List ℕ) {d e : List ℕ} {r : Put} where
   unfolding name_text
   name-plain h w = rw (le-leb (length s) code h) w
 
-  module _ (h : code < length s) (o : Decoded) (places : List ℕ) (got : shown o places ≡ decoded ascii code s) where
-    pub name-shown : {n : ℕ} → o ≡ Chars n → Wrote (encoded (take n places)) d e r → Wrote (name_text ascii code s) d e r
+  module _ (h : code < length s) (o : Result ℕ DecodeError) (places : List ℕ) (got : shown o places ≡ decoded ascii code s) where
+    pub name-shown : {n : ℕ} → o ≡ Ok n → Wrote (encoded (take n places)) d e r → Wrote (name_text ascii code s) d e r
     unfolding name_text shown_name shown
     name-shown k w = rw (lt-leb (length s) code h, ← got, k) w
 
     -- an answer that is not of characters
-    pub name-raw : ((n : ℕ) → o ≡ Chars n → ⊥) → Wrote (raw_name (take ascii s) (drop code s)) d e r → Wrote (name_text ascii code s) d e r
+    pub name-raw : ((n : ℕ) → o ≡ Ok n → ⊥) → Wrote (raw_name (take ascii s) (drop code s)) d e r → Wrote (name_text ascii code s) d e r
     unfolding name_text
     name-raw k w = rw (lt-leb (length s) code h, ← got) (go o k)
       where
-        go : (o : Decoded) → ((n : ℕ) → o ≡ Chars n → ⊥) → Wrote (shown_name (shown o places) (take ascii s) (drop code s)) d e r
-        go (Chars n) k = absurd (k n refl)
-        go Long k = unfold shown_name shown in w
-        go Broken k = unfold shown_name shown in w
+        go : (o : Result ℕ DecodeError) → ((n : ℕ) → o ≡ Ok n → ⊥) → Wrote (shown_name (shown o places) (take ascii s) (drop code s)) d e r
+        go (Ok n) k = absurd (k n refl)
+        go (Err Long) k = unfold shown_name shown in w
+        go (Err Broken) k = unfold shown_name shown in w
 
-pub few-chars : (o : Decoded) {n : ℕ} → count_of o ≤ most → o ≡ Chars n → n ≤ 128
+pub few-chars : (o : Result ℕ DecodeError) {n : ℕ} → count_of o ≤ most → o ≡ Ok n → n ≤ 128
 few-chars o h k = rw k at h
 
-pub name-scalars : (ascii code : ℕ) (s : List ℕ) (o : Decoded) (places : List ℕ) {n : ℕ} → shown o places ≡ decoded ascii code s → o ≡ Chars n → ((i : ℕ) → Fits w8 (get_or s i 0)) → Scalars (take n places)
+pub name-scalars : (ascii code : ℕ) (s : List ℕ) (o : Result ℕ DecodeError) (places : List ℕ) {n : ℕ} → shown o places ≡ decoded ascii code s → o ≡ Ok n → ((i : ℕ) → Fits w8 (get_or s i 0)) → Scalars (take n places)
 unfolding shown
 name-scalars ascii code s o places {n} got k b = decoded-scalars ascii code s (take n places) (λ i. (b i).fits) (rw k at got)
 

@@ -6,7 +6,6 @@ use Prim.Native.Nat.{ℕ, zero, suc, ◌+◌, ◌-◌, ◌*◌, ◌/◌, ◌%◌
 use native.Mathlib.Nat.{div-lt_self, mod-eq_of_lt, div-div-eq-div-mul, div-one, div-lt_iff_lt-mul, le-div_iff_mul-le, pow-succ', pow-suc, pow-zero, pow-le-pow_right, le_trans, lt_of_lt_of_le, le-mul_of_pos_right, mul-suc}
 use native.Mathlib.Decide.{dec_lt}
 use native.Mathlib.Omega.{arith}
-use borrow.Author.Rules.{rules}
 use borrow.Author.Tests.{lt-ltb, le-ltb}
 use mir.Val.{Fits}
 use mir.Syntax.{w64}
@@ -15,9 +14,8 @@ use lib.Pow.{pow-add, pow_mono}
 use lib.Count.{count_leading_zeros, leading_le, leading_length}
 use lib.ListN.{length, get_or, length-append, length-map, get_or-append}
 use lib.Seq.{get_or_at}
-use Rattle.pieces.specs.Laid.{Wrote}
+use Rattle.pieces.specs.Laid.{Put, Wrote}
 use Rattle.pieces.specs.Numeral.{numeral_in, numeral, decimal, hex_digit, hexadecimal, depth_text}
-use Rattle.pieces.specs.declared.put.Put.{Put}
 use Rattle.pieces.proofs.WritingLaws.{piece-laws, copy-laws, get_or-map-in}
 
 one : (f b n : ℕ) → n < b → numeral_in (suc f) b n ≡ n ∷ []
@@ -206,4 +204,4 @@ module _ (n : ℕ) where
   unfolding hex_digit
   digit-high h = rw (le-ltb n 10 h)
 
-pub ruleset digit-laws = (digit_low, digit-high, rules)
+pub ruleset digit_laws = (digit_low, digit-high)

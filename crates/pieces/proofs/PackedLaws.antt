@@ -1,17 +1,15 @@
 -- Short texts as numbers of base 256: the bytes of a number, one a turn, and the numbers that the code has. Assumes nothing.
 use mathlib.Core.Path.{◌≡◌, refl, sym, ap, ◌∙◌}
 use mathlib.Core.List.{List, ◌∷◌}
-use Prim.Native.Nat.{ℕ, zero, suc, ◌+◌, ◌/◌, ◌%◌, ◌^◌, ◌≤◌, ◌<◌}
-use native.Mathlib.Nat.{div-lt_self}
+use Prim.Native.Nat.{ℕ, zero, suc, ◌+◌, ◌-◌, ◌/◌, ◌%◌, ◌^◌, ◌≤◌, ◌<◌}
+use native.Mathlib.Nat.{div-lt_self, div-lt_iff_lt-mul, pow-suc, pow-zero}
 use native.Mathlib.Omega.{arith}
 use borrow.Author.Rules.{rules}
 use borrow.Author.Tests.{ne_eqb}
-use mir.Val.{Fits}
-use mir.Syntax.{w64}
 use lib.ListN.{length, set}
-use Rattle.pieces.specs.Laid.{Wrote}
+use Rattle.std.specs.Prelude.{Ok, Err}
+use Rattle.pieces.specs.Laid.{no_room, Wrote}
 use Rattle.pieces.specs.Packed.{bytes_in, bytes_of}
-use Rattle.pieces.specs.declared.put.Put.TheVariants.{Done, NoRoom}
 use Rattle.pieces.proofs.WritingLaws.{Going, going_start, going-size, going_end, byte_next, byte-stop}
 
 one_more : (f n : ℕ) → (n ≡ 0 → ⊥) → bytes_in (suc f) n ≡ n % 256 ∷ bytes_in f (n / 256)
@@ -29,27 +27,35 @@ enough (suc f) (suc g) (suc m) p q =
     let less : suc m / 256 < suc m = div-lt_self (omega arith) (omega arith) in
     one_more f (suc m) some ∙ ap (λ (l : List ℕ). suc m % 256 ∷ l) (enough f g (suc m / 256) (omega arith) (omega arith)) ∙ sym (one_more g (suc m) some)
 
-module _ (n : ℕ) (h : n ≡ 0 → ⊥) where
-  pub packed-less : n / 256 < n
-  packed-less = div-lt_self (omega arith) (omega arith)
+more : (n : ℕ) → (n ≡ 0 → ⊥) → bytes_of n ≡ n % 256 ∷ bytes_of (n / 256)
+unfolding bytes_of
+more n h =
+    let less : n / 256 < n = div-lt_self (omega arith) (omega arith) in
+    one_more n n h ∙ ap (λ (l : List ℕ). n % 256 ∷ l) (enough n (suc (n / 256)) (n / 256) less (omega arith))
 
-  more : bytes_of n ≡ n % 256 ∷ bytes_of (n / 256)
-  unfolding bytes_of
-  more = one_more n n h ∙ ap (λ (l : List ℕ). n % 256 ∷ l) (enough n (suc (n / 256)) (n / 256) packed-less (omega arith))
-
-pub packed-fits : {whole left d e : List ℕ} {i : ℕ} → Going whole left d e i → i < length e → length d < 2 ^ 64 → Fits w64 (i + 1)
-packed-fits g k l = omega (arith, going-size g)
+-- so many bytes hold what is left
+pub packed-room : (n i : ℕ) → n < 256 ^ (8 - i) → i < 8 → n / 256 < 256 ^ (8 - (i + 1))
+packed-room n i u h =
+    let e : 8 - i ≡ suc (8 - (i + 1)) = omega arith in
+    (div-lt_iff_lt-mul (omega arith)).1 (rw (← pow-suc 256 (8 - (i + 1)), ← e) u)
 
 module _ {whole d e : List ℕ} {n i : ℕ} (g : Going whole (bytes_of n) d e i) where
-  pub packed-end : n ≡ 0 → Wrote whole d e (Done i)
+  pub packed-end : n ≡ 0 → Wrote whole d e (Ok i)
   unfolding bytes_of bytes_in
   packed-end h = going_end g (ap bytes_of h)
 
+  pub packed-last : n < 256 ^ (8 - i) → 8 ≤ i → i ≤ 8 → Wrote whole d e (Ok 8)
+  packed-last u h k =
+      let z : 8 - i ≡ 0 = omega arith in
+      let w : n < 1 = rw (z, pow-zero) at u in
+      let t : i ≡ 8 = omega arith in
+      rw t at (packed-end (omega arith))
+
   module _ (h : n ≡ 0 → ⊥) where
-    pub packed-full : length e ≤ i → Wrote whole d e NoRoom
+    pub packed-full : length e ≤ i → Wrote whole d e (Err no_room)
     packed-full k = byte-stop g (more n h) k
 
     pub packed-next : i < length e → Going whole (bytes_of (n / 256)) d (set e i (n % 256)) (i + 1)
     packed-next k = byte_next g (more n h) k
 
-pub ruleset packed-laws = (going_start, going-size, packed-less, packed-end, packed-fits, packed-full, packed-next, rules)
+pub ruleset packed-laws = (going_start, going-size, packed-room, packed-end, packed-last, packed-full, packed-next, rules)

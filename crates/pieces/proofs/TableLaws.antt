@@ -1,5 +1,5 @@
--- Tables: starts and lengths over one run of bytes, and a number for each key of a `match`. One test that antt computes over all numbers
--- below a bound gives what holds of each. Assumes nothing.
+-- Tables: starts and lengths over one run of bytes. One test that antt computes over all numbers below a bound gives what holds of each.
+-- Assumes nothing.
 use mathlib.Core.Path.{◌≡◌, refl, ap₂}
 use mathlib.Core.Bool.{Bool, true, false}
 use mathlib.Core.List.{List, [], ◌∷◌}
@@ -8,13 +8,11 @@ use native.Mathlib.Nat.{add-sub_cancel_left}
 use native.Mathlib.Decide.{dec_lt}
 use native.Mathlib.Omega.{arith}
 use borrow.Author.Rules.{rules}
-use borrow.Author.Tests.{eqb-true}
 use mir.Val.{Fits}
 use mir.Syntax.{w64}
 use lib.Dec.{T, leb, leb→le, eqb, eqb→eq}
 use lib.ListN.{length, get_or, take, drop}
-use Rattle.pieces.specs.Laid.{Wrote}
-use Rattle.pieces.specs.declared.put.Put.{Put}
+use Rattle.pieces.specs.Laid.{Put, Wrote}
 
 abbrev both : Bool → Bool → Bool
 both true b = b
@@ -77,21 +75,3 @@ module _ (starts lengths : List ℕ) (k : ℕ) (h : k < length starts) where
       rw (← eq_list→eq (take (get_or lengths k 0) (drop (get_or starts k 0) run)) (text k) (passes (λ i. eq_list (take (get_or lengths i 0) (drop (get_or starts i 0) run)) (text i)) (length starts) t k h), ← add-sub_cancel_left (get_or starts k 0) (get_or lengths k 0)) w
 
 pub ruleset table-laws = (entry-fits, ends_by, end_fits, rules)
-
--- ---- a `match`: the keys that a number was held to before the last arm, from the last key to the first
-abbrev pub Missed : List ℕ → ℕ → Type 0
-Missed [] x = Unit {0}
-Missed (k ∷ ks) x = Missed ks x × (x ≡ k → ⊥)
-
--- it is a key, or passes
-abbrev pub key_or : List ℕ → ℕ → Bool → Bool
-key_or [] x b = b
-key_or (k ∷ ks) x b = elim (eqb x k) [ true ↦ true | false ↦ key_or ks x b ]
-
-pub missed : (ks : List ℕ) (x : ℕ) (b : Bool) → Missed ks x → T (key_or ks x b) → T b
-missed [] x b m t = t
-missed (k ∷ ks) x b m t = go (missed ks x b m.0) (eqb x k) refl t
-  where
-    go : (T (key_or ks x b) → T b) → (e : Bool) → eqb x k ≡ e → T (elim e [ true ↦ true | false ↦ key_or ks x b ]) → T b
-    go r true e u = absurd (m.1 (eqb-true x k e))
-    go r false e u = r u

@@ -1,50 +1,54 @@
 -- The fixed words: the number of each, and the bytes of that number. Assumes nothing.
-use mathlib.Core.Path.{◌≡◌}
-use mathlib.Core.List.{List, []}
-use Prim.Native.Nat.{ℕ, ◌≤◌, ◌<◌}
-use native.Mathlib.Decide.{dec_lt}
-use native.Mathlib.Omega.{arith}
+use mathlib.Core.Path.{◌≡◌, refl, sym, ◌∙◌}
+use mathlib.Core.Bool.{Bool, true}
+use mathlib.Core.List.{List}
+use Prim.Native.Nat.{ℕ}
 use borrow.Author.Rules.{rules}
-use lib.Dec.{T, eqb, eqb→eq}
-use lib.ListN.{get_or-eq_default}
-use Rattle.pieces.specs.Laid.{Wrote}
+use lib.Dec.{T}
+use Rattle.std.specs.Prelude.{Option, Some, None}
+use Rattle.pieces.specs.declared.words.Word.{Word}
+use Rattle.pieces.specs.declared.words.Word.TheVariants.{Invalid, Deep, Splat}
+use Rattle.pieces.specs.Laid.{Put, Wrote}
 use Rattle.pieces.specs.Packed.{bytes_in, bytes_of, little, packed}
-use Rattle.pieces.specs.Words.{words, word_at}
-use Rattle.pieces.specs.declared.put.Put.{Put}
-use Rattle.pieces.proofs.TableLaws.{below, passes, eq_list, eq_list→eq, Missed, key_or, missed}
+use Rattle.pieces.specs.Words.{ascii, word_at}
+use Rattle.pieces.proofs.TableLaws.{eq_list, eq_list→eq}
 
-pub word_number : (k n r : ℕ) → k ≡ n → T (eqb r (packed (word_at n))) → r ≡ packed (word_at k)
-word_number k n r h t = rw h (eqb→eq r (packed (word_at n)) t)
+-- a word's number spells it: a test that is computed word by word
+abbrev spells : Option ℕ → List ℕ → Bool
+spells None t = true
+spells (Some v) t = eq_list (bytes_of v) t
 
-no_word : (k : ℕ) → 52 ≤ k → word_at k ≡ []
-unfolding word_at words
-no_word k h = get_or-eq_default words [] {n = k} h
+each-spells : (w : Word) → T (spells (packed (word_at w)) (word_at w))
+unfolding packed little bytes_of bytes_in word_at ascii
+each-spells Invalid = tt
+each-spells _ = tt
 
-module _ (k : ℕ) (ks : List ℕ) (m : Missed ks k) where
-  -- the other words are longer than eight bytes
-  pub other-number : T (below (λ i. key_or ks i (eqb 0 (packed (word_at i)))) 52) → 0 ≡ packed (word_at k)
-  unfolding packed little
-  other-number t = go (dec_lt k 52)
-    where
-      go : Dec (k < 52) → 0 ≡ packed (word_at k)
-      go (yes h) = eqb→eq 0 (packed (word_at k)) (missed ks k (eqb 0 (packed (word_at k))) m (passes (λ i. key_or ks i (eqb 0 (packed (word_at i)))) 52 t k h))
-      go (no h) = rw (no_word k (omega arith))
+module _ (w : Word) where
+  -- the bytes of a word's number are the word
+  pub word_bytes : {v : ℕ} → Some v ≡ packed (word_at w) → bytes_of v ≡ word_at w
+  word_bytes {v} q = eq_list→eq (bytes_of v) (word_at w) (rw (← q) at (each-spells w))
 
-  -- the bytes of a word's number are the word, but for the longer ones
-  pub word_bytes : {v : ℕ} {d e : List ℕ} {r : Put} → v ≡ packed (word_at k)
-      → T (below (λ i. key_or ks i (eq_list (bytes_of (packed (word_at i))) (word_at i))) 52)
-      → Wrote (bytes_of v) d e r → Wrote (word_at k) d e r
-  unfolding bytes_of bytes_in packed little
-  word_bytes {v} {d} {e} {r} q t w = rw (← go (dec_lt k 52), ← q) w
-    where
-      go : Dec (k < 52) → bytes_of (packed (word_at k)) ≡ word_at k
-      go (yes h) =
-          eq_list→eq (bytes_of (packed (word_at k))) (word_at k)
-          (missed ks k (eq_list (bytes_of (packed (word_at k))) (word_at k)) m (passes (λ i. key_or ks i (eq_list (bytes_of (packed (word_at i))) (word_at i))) 52 t k h))
-      go (no h) = rw (no_word k (omega arith))
+  pub word_short : {v : ℕ} {o : Option ℕ} {d e : List ℕ} {r : Put} → o ≡ packed (word_at w) → o ≡ Some v → Wrote (bytes_of v) d e r → Wrote (word_at w) d e r
+  word_short {v} q s t = rw (word_bytes (sym s ∙ q)) at t
 
--- a longer word
-pub word-text : (k n : ℕ) (t : List ℕ) {d e : List ℕ} {r : Put} → k ≡ n → T (eq_list t (word_at n)) → Wrote t d e r → Wrote (word_at k) d e r
-word-text k n t h s w = rw (h, ← eq_list→eq t (word_at n) s) w
+-- the third of the longer words
+longer : (w : Word) → None ≡ packed (word_at w) → (w ≡ Invalid → ⊥) → (w ≡ Deep → ⊥) → w ≡ Splat
+unfolding packed little word_at ascii
+longer Invalid q i d = absurd (i refl)
+longer Deep q i d = absurd (d refl)
+longer Splat q i d = refl
+longer _ q i d = cc
 
-pub ruleset word_laws = (word_number, word-text, rules)
+-- the text of a longer word, by the word that it is
+pub word_text : (w v : Word) {t d e : List ℕ} {r : Put} → w ≡ v → t ≡ word_at v → Wrote t d e r → Wrote (word_at w) d e r
+word_text w v is q t = rw (is, ← q) t
+
+pub word_last : (w : Word) {o : Option ℕ} {t d e : List ℕ} {r : Put} → o ≡ packed (word_at w) → ((v : ℕ) → o ≡ Some v → ⊥) → (w ≡ Invalid → ⊥) → (w ≡ Deep → ⊥)
+    → t ≡ word_at Splat → Wrote t d e r → Wrote (word_at w) d e r
+word_last w {o} q s i d k t = rw (longer w (go o q s) i d, ← k) t
+  where
+    go : (o : Option ℕ) → o ≡ packed (word_at w) → ((v : ℕ) → o ≡ Some v → ⊥) → None ≡ packed (word_at w)
+    go None q s = q
+    go (Some v) q s = absurd (s v refl)
+
+pub ruleset word_laws = (word_short, word_text, word_last, rules)

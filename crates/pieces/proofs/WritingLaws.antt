@@ -2,7 +2,7 @@
 use mathlib.Core.Path.{◌≡◌, refl, sym, ap, ◌∙◌}
 use mathlib.Core.Bool.{Bool, true, false}
 use mathlib.Core.List.{List, [], ◌∷◌, ◌++◌, map, append-nil, append_assoc}
-use Prim.Native.Nat.{ℕ, zero, suc, ◌+◌, ◌-◌, ◌^◌, ◌≤◌, ◌<◌}
+use Prim.Native.Nat.{ℕ, zero, suc, ◌+◌, ◌-◌, ◌^◌, ◌≤◌, ◌<◌, min}
 use native.Mathlib.Omega.{arith}
 use borrow.Author.Rules.{rules}
 use borrow.Author.Tests.{le-leb, lt-leb, leb-true, leb-false, eq-eqb, ne_eqb}
@@ -13,37 +13,39 @@ use native.Mathlib.Numerals.{add-one}
 use lib.ListN.{length, set, drop, take, get_or, length-append, length-map, length-drop, take-append-drop, drop_of_length-le}
 use lib.Seq.{take_all, take_at, drop_at, drop-cons, set_split}
 use Rattle.parser.specs.Digits.{if-then}
-use Rattle.pieces.specs.Laid.{laid, room, Wrote}
+use Rattle.std.specs.Prelude.{Ok, Err, IsErr}
+use Rattle.std.specs.Result.{result_from_control_flow}
+use Rattle.std.proofs.Common.{Continue, Break}
+use Rattle.pieces.specs.declared.put.NoRoom.{NoRoom}
+use Rattle.pieces.specs.Laid.{Put, no_room, laid, room, Wrote}
 use Rattle.pieces.specs.Names.{dashed, abi_text}
-use Rattle.pieces.specs.declared.put.Put.{Put}
-use Rattle.pieces.specs.declared.put.Put.TheVariants.{Done, NoRoom}
 
 -- no two constructors are equal: `clash (cc)` answers a case that cannot be
 pub clash : {A : Type 0} → ◌≡◌ {A = ℕ} 0 1 → A
 clash z = absurd (omega arith)
 
 -- ---- the answer
-room-done : (n m : ℕ) → n ≤ m → room n m ≡ Done n
+room-done : (n m : ℕ) → n ≤ m → room n m ≡ Ok n
 unfolding room
 room-done n m h = rw (le-leb n m h)
 
-room-none : (n m : ℕ) → m < n → room n m ≡ NoRoom
+room-none : (n m : ℕ) → m < n → room n m ≡ Err no_room
 unfolding room
 room-none n m h = rw (lt-leb n m h)
 
-done : (n m : ℕ) {k : ℕ} → Done k ≡ room n m → (k ≡ n) × (n ≤ m)
+done : (n m : ℕ) {k : ℕ} → Ok k ≡ room n m → (k ≡ n) × (n ≤ m)
 unfolding room
 done n m {k} q = go (leb n m) refl q
   where
-    go : (t : Bool) → leb n m ≡ t → Done k ≡ if-then t (Done n) NoRoom → (k ≡ n) × (n ≤ m)
+    go : (t : Bool) → leb n m ≡ t → Ok k ≡ if-then t (Ok n) (Err no_room) → (k ≡ n) × (n ≤ m)
     go true h p = (cc, leb-true n m h)
     go false h p = clash (cc)
 
-full : (n m : ℕ) → NoRoom ≡ room n m → m < n
+full : (n m : ℕ) {x : NoRoom} → Err x ≡ room n m → m < n
 unfolding room
-full n m q = go (leb n m) refl q
+full n m {x} q = go (leb n m) refl q
   where
-    go : (t : Bool) → leb n m ≡ t → NoRoom ≡ if-then t (Done n) NoRoom → m < n
+    go : (t : Bool) → leb n m ≡ t → Err x ≡ if-then t (Ok n) (Err no_room) → m < n
     go true h p = clash (cc)
     go false h p = leb-false n m h
 
@@ -68,25 +70,50 @@ laid-over [] u (y ∷ d) h = absurd (omega arith)
 laid-over (x ∷ t) u [] h = refl
 laid-over (x ∷ t) u (y ∷ d) h = ap (λ (l : List ℕ). x ∷ l) (laid-over t u d (omega arith))
 
+laid-cut : (t d : List ℕ) → length d ≤ length t → take (length d) t ≡ laid t d
+unfolding laid
+laid-cut [] [] h = refl
+laid-cut [] (y ∷ d) h = absurd (omega arith)
+laid-cut (x ∷ t) [] h = refl
+laid-cut (x ∷ t) (y ∷ d) h = ap (λ (l : List ℕ). x ∷ l) (laid-cut t d (omega arith))
+
+laid-all : (t d : List ℕ) → length t ≤ length d → t ++ drop (length t) d ≡ laid t d
+unfolding laid
+laid-all t d h = sym (ap (λ (l : List ℕ). laid l d) (sym (append-nil t)) ∙ laid-fit t [] d h)
+
 same_size : {t d e : List ℕ} {r : Put} → Wrote t d e r → length e ≡ length d
 same_size {t} {d} w = ap length w.left ∙ length-laid t d
 
 -- ---- nothing, and one byte
-pub wrote_none : (d : List ℕ) → Wrote [] d d (Done 0)
+pub wrote_none : (d : List ℕ) → Wrote [] d d (Ok 0)
 unfolding laid
 wrote_none d = record { left = refl; said = sym (room-done 0 (length d) (omega arith)) }
 
-pub byte-done : (b : ℕ) (d : List ℕ) → 0 < length d → Wrote (b ∷ []) d (set d 0 b) (Done 1)
+pub byte-done : (b : ℕ) (d : List ℕ) → (length d ≡ 0 → ⊥) → Wrote (b ∷ []) d (set d 0 b) (Ok 1)
 unfolding laid
-byte-done b [] h = absurd (omega arith)
-byte-done b (y ∷ d) h = record { left = refl; said = sym (room-done 1 (length (y ∷ d)) h) }
+byte-done b [] h = absurd (h refl)
+byte-done b (y ∷ d) h = record { left = refl; said = sym (room-done 1 (length (y ∷ d)) (omega arith)) }
 
-pub byte_full : (b : ℕ) (d : List ℕ) → length d ≤ 0 → Wrote (b ∷ []) d d NoRoom
+pub byte_full : (b : ℕ) (d : List ℕ) → length d ≡ 0 → Wrote (b ∷ []) d d (Err no_room)
 unfolding laid
 byte_full b [] h = record { left = refl; said = sym (room-none 1 0 (omega arith)) }
 byte_full b (y ∷ d) h = absurd (omega arith)
 
 pub ruleset byte_laws = (byte-done, byte_full, rules)
+
+-- ---- the common length is copied
+module _ (t d : List ℕ) {f : List ℕ} {n : ℕ} (s : f ≡ take n t) (m : n ≡ min (length t) (length d)) where
+  pub run_all : length t ≤ n → Wrote t d (f ++ drop n d) (Ok n)
+  run_all h =
+      let e : n ≡ length t = omega arith in
+      record { left = rw (s, take_all n t h, e) (laid-all t d (omega arith)); said = ap Ok e ∙ sym (room-done (length t) (length d) (omega arith)) }
+
+  pub run_part : n < length t → Wrote t d (f ++ drop n d) (Err no_room)
+  run_part h =
+      let e : n ≡ length d = omega arith in
+      record { left = rw (s, e, drop_of_length-le d {i = length d} (omega arith), append-nil) (laid-cut t d (omega arith)); said = sym (room-none (length t) (length d) (omega arith)) }
+
+pub ruleset run_laws = (run_all, run_part, rules)
 
 -- ---- a piece after a text that is written, in the rest of the buffer
 -- the rest of a buffer from a place on, as it is lent, and the buffer when it is back
@@ -99,15 +126,15 @@ back e a f = take a e ++ (f ++ drop (length e - a) (drop a e))
 back-same : (e : List ℕ) (i : ℕ) → back e i (rest e i) ≡ e
 back-same e i = ap (λ (l : List ℕ). take i e ++ l) (take-append-drop (length e - i) (drop i e)) ∙ take-append-drop i e
 
-no_more : {t d e : List ℕ} → (u : List ℕ) → Wrote t d e NoRoom → Wrote (t ++ u) d e NoRoom
+no_more : {t d e : List ℕ} {x : NoRoom} → (u : List ℕ) → Wrote t d e (Err x) → Wrote (t ++ u) d e (Err x)
 no_more {t} {d} u w =
     let k = full (length t) (length d) w.said in
     record {
       left = w.left ∙ sym (laid-over t u d (omega arith));
-      said = sym (room-none (length (t ++ u)) (length d) (omega (arith, length-append t u)));
+      said = w.said ∙ room-none (length t) (length d) k ∙ sym (room-none (length (t ++ u)) (length d) (omega (arith, length-append t u)));
     }
 
-module _ {t d e : List ℕ} {a : ℕ} (w : Wrote t d e (Done a)) where
+module _ {t d e : List ℕ} {a : ℕ} (w : Wrote t d e (Ok a)) where
   ends : (a ≡ length t) × (length t ≤ length d)
   ends = done (length t) (length d) w.said
 
@@ -135,39 +162,44 @@ module _ {t d e : List ℕ} {a : ℕ} (w : Wrote t d e (Done a)) where
         ∙ ap (λ (l : List ℕ). l ++ laid u (drop (length t) d)) (ap (take a) splits ∙ take_at t (drop (length t) d) a (sym k.0))
         ∙ sym (laid-fit t u d k.1)
 
-    then-done : {k : ℕ} → Wrote u (rest e a) f (Done k) → Wrote (t ++ u) d (back e a f) (Done (a + k))
+    then-done : {k : ℕ} → Wrote u (rest e a) f (Ok k) → Wrote (t ++ u) d (back e a f) (Ok (a + k))
     then-done {k} v =
         let p = ends in
         let q = done (length u) (length (rest e a)) v.said in
         let s = length-append t u in
         let z = size in
         let n : a + k ≡ length (t ++ u) = omega arith in
-        record { left = both_left v; said = ap Done n ∙ sym (room-done (length (t ++ u)) (length d) (omega arith)) }
+        record { left = both_left v; said = ap Ok n ∙ sym (room-done (length (t ++ u)) (length d) (omega arith)) }
 
-    then-full : Wrote u (rest e a) f NoRoom → Wrote (t ++ u) d (back e a f) NoRoom
+    then-full : {x : NoRoom} → Wrote u (rest e a) f (Err x) → Wrote (t ++ u) d (back e a f) (Err x)
     then-full v =
         let p = ends in
         let q = full (length u) (length (rest e a)) v.said in
         let s = length-append t u in
         let z = size in
-        record { left = both_left v; said = sym (room-none (length (t ++ u)) (length d) (omega arith)) }
+        record { left = both_left v; said = v.said ∙ room-none (length u) (length (rest e a)) q ∙ sym (room-none (length (t ++ u)) (length d) (omega arith)) }
 
--- ---- two pieces, as the places of a function have them: p and q are the writers' answers
-module _ {t d e : List ℕ} {p : Put} (w : Wrote t d e p) where
-  pub stops : (u : List ℕ) → p ≡ NoRoom → Wrote (t ++ u) d e NoRoom
-  stops u k = no_more u (rw k at w)
+-- ---- two pieces, as the places of a function have them: p and q are the writers' answers, which `?` takes as x and y
+-- what `?` hands on is the refusal
+refused : {x : NoRoom} (r : Put) → IsErr r → r ≡ Err x
+refused (Ok n) h = clash (cc)
+refused (Err y) h = refl
 
-  module _ {a : ℕ} (k : p ≡ Done a) where
+module _ {t d e : List ℕ} {p : Put} (w : Wrote t d e p) {x : _} (s : p ≡ result_from_control_flow x) where
+  pub stops : (u : List ℕ) {g : _} {r : Put} → x ≡ Break g → IsErr r → Wrote (t ++ u) d e r
+  stops u {g} {r} k h = rw (refused {x = g.0} r h) (no_more u (rw (s, k) at w))
+
+  module _ {a : ℕ} (k : x ≡ Continue a) where
     pub lends : a ≤ length e
-    lends = ends-within (rw k at w)
+    lends = ends-within (rw (s, k) at w)
 
-    module _ {u f : List ℕ} {q : Put} (v : Wrote u (rest e a) f q) where
-      pub both-full : q ≡ NoRoom → Wrote (t ++ u) d (back e a f) NoRoom
-      both-full l = then-full (rw k at w) (rw l at v)
+    module _ {u f : List ℕ} {q : Put} {y : _} (v : Wrote u (rest e a) f q) (o : q ≡ result_from_control_flow y) where
+      pub both-full : {g : _} {r : Put} → y ≡ Break g → IsErr r → Wrote (t ++ u) d (back e a f) r
+      both-full {g} {r} l h = rw (refused {x = g.0} r h) (then-full (rw (s, k) at w) (rw (o, l) at v))
 
-      module _ {n : ℕ} (l : q ≡ Done n) where
-        pub both-done : Wrote (t ++ u) d (back e a f) (Done (a + n))
-        both-done = then-done (rw k at w) (rw l at v)
+      module _ {n : ℕ} (l : y ≡ Continue n) where
+        pub both-done : Wrote (t ++ u) d (back e a f) (Ok (a + n))
+        both-done = then-done (rw (s, k) at w) (rw (o, l) at v)
 
         pub both-fit : length d < 2 ^ 64 → Fits w64 (a + n)
         both-fit h = omega (arith, ends both-done)
@@ -178,13 +210,13 @@ pub ruleset piece-laws = (stops, lends, both-full, both-done, both-fit, rules)
 pub record Going (whole left d e : List ℕ) (w : ℕ) : Type 0 where
   pub front : List ℕ
   pub split : front ++ left ≡ whole
-  pub wrote : Wrote front d e (Done w)
+  pub wrote : Wrote front d e (Ok w)
 
 pub going_start : (whole d : List ℕ) → Going whole whole d d 0
 going_start whole d = record { front = []; split = refl; wrote = wrote_none d }
 
 module _ {whole left d e : List ℕ} {w : ℕ} (g : Going whole left d e w) where
-  pub going_end : left ≡ [] → Wrote whole d e (Done w)
+  pub going_end : left ≡ [] → Wrote whole d e (Ok w)
   going_end z = rw (← g.split, z, append-nil) g.wrote
 
   pub going-size : length e ≡ length d
@@ -199,20 +231,27 @@ module _ {whole left d e : List ℕ} {w : ℕ} (g : Going whole left d e w) wher
       rw (length-append (take w e) (f ++ drop (length e - w) (drop w e)), length-append f (drop (length e - w) (drop w e)), k, ← length-append (rest e w) (drop (length e - w) (drop w e)), ← length-append (take w e) (rest e w ++ drop (length e - w) (drop w e)))
       (ap length (back-same e w) ∙ going-size)
 
-  -- q is what the writer of the next piece answered
-  module _ {u f : List ℕ} {q : Put} (v : Wrote u (rest e w) f q) where
-    pub going-fit : {k : ℕ} → q ≡ Done k → length d < 2 ^ 64 → Fits w64 (w + k)
-    going-fit k h = omega (arith, ends (then-done g.wrote (rw k at v)))
+  module _ (u more : List ℕ) (s : left ≡ u ++ more) where
+    joined : (g.front ++ u) ++ more ≡ whole
+    joined = append_assoc g.front u more ∙ ap (λ (l : List ℕ). g.front ++ l) (sym s) ∙ g.split
+
+    on : {f : List ℕ} {k : ℕ} → Wrote u (rest e w) f (Ok k) → Going whole more d (back e w f) (w + k)
+    on v = record { front = g.front ++ u; split = joined; wrote = then-done g.wrote v }
+
+    off : {f : List ℕ} {x : NoRoom} → Wrote u (rest e w) f (Err x) → Wrote whole d (back e w f) (Err x)
+    off v = rw joined at (no_more more (then-full g.wrote v))
+
+  -- q is what the writer of the next piece answered, which `?` takes as y
+  module _ {u f : List ℕ} {q : Put} (v : Wrote u (rest e w) f q) {y : _} (o : q ≡ result_from_control_flow y) where
+    pub going-fit : {k : ℕ} → y ≡ Continue k → length d < 2 ^ 64 → Fits w64 (w + k)
+    going-fit k h = omega (arith, ends (then-done g.wrote (rw (o, k) at v)))
 
     module _ (more : List ℕ) (s : left ≡ u ++ more) where
-      joined : (g.front ++ u) ++ more ≡ whole
-      joined = append_assoc g.front u more ∙ ap (λ (l : List ℕ). g.front ++ l) (sym s) ∙ g.split
+      pub going_next : {k : ℕ} → y ≡ Continue k → Going whole more d (back e w f) (w + k)
+      going_next k = on u more s (rw (o, k) at v)
 
-      pub going_next : {k : ℕ} → q ≡ Done k → Going whole more d (back e w f) (w + k)
-      going_next k = record { front = g.front ++ u; split = joined; wrote = then-done g.wrote (rw k at v) }
-
-      pub going-full : q ≡ NoRoom → Wrote whole d (back e w f) NoRoom
-      going-full k = rw joined at (no_more more (then-full g.wrote (rw k at v)))
+      pub going-full : {z : _} {r : Put} → y ≡ Break z → IsErr r → Wrote whole d (back e w f) r
+      going-full {z} {r} k h = rw (refused {x = z.0} r h) (off u more s (rw (o, k) at v))
 
 pub ruleset loop-laws = (going_start, going-size, going-back, going-within, going-fit, going_next, going-full, rules)
 
@@ -226,21 +265,21 @@ module _ {whole left d e : List ℕ} {i : ℕ} (g : Going whole left d e i) {b :
   size-left : length (rest e i) ≡ length e - i
   size-left = ap length (take_all (length e - i) (drop i e) (omega (arith, length-drop i e))) ∙ length-drop i e
 
-  pub byte-stop : length e ≤ i → Wrote whole d e NoRoom
-  byte-stop k = rw back-same at (going-full g (byte_full b (rest e i) (omega (arith, size-left))) more s refl)
+  pub byte-stop : length e ≤ i → Wrote whole d e (Err no_room)
+  byte-stop k = rw back-same at (off g (b ∷ []) more s (byte_full b (rest e i) (omega (arith, size-left))))
 
   pub byte_next : i < length e → Going whole more d (set e i b) (i + 1)
-  byte_next k = rw (← back-set e i b k) (going_next g (byte-done b (rest e i) (omega (arith, size-left))) more s refl)
+  byte_next k = rw (← back-set e i b k) (on g (b ∷ []) more s (byte-done b (rest e i) (λ z. omega (arith, size-left))))
 
 module _ {whole d e : List ℕ} {i : ℕ} (g : Going whole (drop i whole) d e i) (n : ℕ) (size : length whole ≡ n) where
-  pub copy-end : n ≤ i → Wrote whole d e (Done i)
-  copy-end h = going_end g (drop_of_length-le whole {i = i} (omega arith))
+  pub copy-end : n ≤ i → i ≤ n → Wrote whole d e (Ok n)
+  copy-end h k = let z : i ≡ n = omega arith in rw z at (going_end g (drop_of_length-le whole {i = i} (omega arith)))
 
   module _ (h : i < n) where
     turn : drop i whole ≡ get_or whole i 0 ∷ drop (i + 1) whole
     turn = rw add-one (drop-cons whole i 0 (omega arith))
 
-    pub copy-full : length e ≤ i → Wrote whole d e NoRoom
+    pub copy-full : length e ≤ i → Wrote whole d e (Err no_room)
     copy-full k = byte-stop g turn k
 
     pub copy-next : {b : ℕ} → b ≡ get_or whole i 0 → i < length e → Going whole (drop (i + 1) whole) d (set e i b) (i + 1)

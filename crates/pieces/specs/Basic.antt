@@ -1,8 +1,12 @@
 -- The twenty-one basic types: a letter and a name. Assumes nothing: these are definitions.
-use Rattle.std.specs.Prelude.{Bool, true, false, List, [], ◌∷◌, ℕ, eqb}
+use Rattle.std.specs.Prelude.{Bool, true, false, List, [], ◌∷◌, ℕ, ◌-◌, eqb, ltb, Option, Some, None}
 use Prim.Native.String.{String}
 use Rattle.parser.specs.Digits.{if-then}
 use Rattle.pieces.specs.Words.{ascii}
+
+-- a lower-case letter's place in the alphabet
+abbrev pub place : ℕ → Option ℕ
+place c = if-then (ltb c 97) None (if-then (ltb c 123) (Some (c - 97)) None)
 
 -- each letter's name
 unfoldable pub basic : List (ℕ × String)

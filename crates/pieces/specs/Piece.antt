@@ -1,6 +1,9 @@
 -- What is printed, before the mode is known, and its text by mode. Assumes nothing: these are definitions.
-use Rattle.std.specs.Prelude.{Bool, true, false, List, [], ◌∷◌, ◌++◌, ℕ, zero, suc, eqb}
+use Rattle.std.specs.Prelude.{Bool, true, false, List, [], ◌∷◌, ◌++◌, ℕ, eqb, Option, Some, None}
 use Rattle.parser.specs.Digits.{if-then}
+use Rattle.pieces.specs.declared.mode.Mode.{Mode}
+use Rattle.pieces.specs.declared.mode.Mode.TheVariants.{Plain, Short}
+use Rattle.pieces.specs.declared.words.Word.{Word}
 use Rattle.pieces.specs.Words.{word_at}
 use Rattle.pieces.specs.Numeral.{decimal, hash_text, life_text}
 use Rattle.pieces.specs.Basic.{basic_name}
@@ -8,8 +11,9 @@ use Rattle.pieces.specs.Quoted.{quoted}
 use Rattle.pieces.specs.Names.{name_text, abi_text}
 
 pub data Piece : Type 0 where
-  -- a fixed word, by its number; a letter; bytes of the symbol as they are; an ABI's name
-  word letter : ℕ → Piece
+  -- a fixed word; a letter; bytes of the symbol as they are; an ABI's name
+  word : Word → Piece
+  letter : ℕ → Piece
   run abi : List ℕ → Piece
   -- an identifier: how many of its bytes are its ASCII part, where its Punycode starts, and its bytes
   name : ℕ → ℕ → List ℕ → Piece
@@ -27,7 +31,7 @@ unless false t = t
 
 -- the text of a piece: short or plain. A crate's number 0 is never shown
 unfoldable pub spell : Bool → Piece → List ℕ
-spell short (word k) = word_at k
+spell short (word w) = word_at w
 spell short (letter b) = b ∷ []
 spell short (run t) = t
 spell short (abi t) = abi_text t
@@ -44,12 +48,12 @@ unfolding spell
 spelled short [] = []
 spelled short (p ∷ ps) = spell short p ++ spelled short ps
 
--- the modes: 0 prints nothing, 1 is plain, any other short
-abbrev pub is_short : ℕ → Bool
-is_short zero = false
-is_short (suc m) = true
+abbrev pub is_short : Mode → Bool
+is_short Plain = false
+is_short Short = true
 
-unfoldable pub render : ℕ → List Piece → List ℕ
+-- the text in a mode; without one nothing is printed
+unfoldable pub render : Option Mode → List Piece → List ℕ
 unfolding spelled
-render zero ps = []
-render (suc m) ps = spelled (is_short m) ps
+render None ps = []
+render (Some m) ps = spelled (is_short m) ps

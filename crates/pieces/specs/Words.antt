@@ -1,184 +1,225 @@
--- The fixed words, by number. Assumes nothing: these are definitions.
-use Rattle.std.specs.Prelude.{List, [], ◌∷◌, ℕ, get_or}
+-- The fixed words. Assumes nothing: these are definitions.
+use Rattle.std.specs.Prelude.{List, [], ◌∷◌, ℕ}
 use Prim.Native.Char.{code}
 use Prim.Native.String as Text
 use Prim.Native.String.{String}
+use Rattle.pieces.specs.declared.words.Word.{Word}
+use Rattle.pieces.specs.declared.words.Word.TheVariants.{Invalid, Deep, Ask, Colons, Special, Closure, Shim, Colon, Hash, Close, Less, As, More, ValueLess, CommaBlank, Plus, Ref, Mut, PtrConst, PtrMut, Bracket, Semicolon, BracketEnd, Paren, Comma, ParenEnd, Unsafe, Extern, ExternEnd, Fn, Arrow, Dyn, Is, Splat, Equals, Range, Or, Null, Underscore, Minus, False, True, Brace, Star, Fields, Field, FieldsEnd, Hex, C, For, ForEnd, Tick}
 
 -- a text's ASCII codes
 unfoldable pub ascii : String → List ℕ
 ascii Text.[] = []
 ascii (Text.◌∷◌ c t) = code c ∷ ascii t
 
-unfoldable pub words : List (List ℕ)
+-- the text of each word
+unfoldable pub word_at : Word → List ℕ
 unfolding ascii
-words =
-    ascii "{invalid syntax}" ∷ ascii "{recursion limit reached}" ∷ ascii "?" ∷ ascii "::" ∷ ascii "::{" ∷
-    ascii "closure" ∷ ascii "shim" ∷ ascii ":" ∷ ascii "#" ∷ ascii "}" ∷ ascii "<" ∷ ascii " as " ∷ ascii ">" ∷
-    ascii "::<" ∷ ascii ", " ∷ ascii " + " ∷ ascii "&" ∷ ascii "mut " ∷ ascii "*const " ∷ ascii "*mut " ∷ ascii "[" ∷
-    ascii "; " ∷ ascii "]" ∷ ascii "(" ∷ ascii "," ∷ ascii ")" ∷ ascii "unsafe " ∷ ascii "extern \"" ∷ ascii "\" " ∷
-    ascii "fn(" ∷ ascii " -> " ∷ ascii "dyn " ∷ ascii " is " ∷ ascii "#[splat] " ∷ ascii " = " ∷ ascii "..=" ∷
-    ascii " | " ∷ ascii "!null" ∷ ascii "_" ∷ ascii "-" ∷ ascii "false" ∷ ascii "true" ∷ ascii "{" ∷ ascii "*" ∷
-    ascii " { " ∷ ascii ": " ∷ ascii " }" ∷ ascii "0x" ∷ ascii "C" ∷ ascii "for<" ∷ ascii "> " ∷
-    ascii "'" ∷ []
+word_at Invalid = ascii "{invalid syntax}"
+word_at Deep = ascii "{recursion limit reached}"
+word_at Ask = ascii "?"
+word_at Colons = ascii "::"
+word_at Special = ascii "::{"
+word_at Closure = ascii "closure"
+word_at Shim = ascii "shim"
+word_at Colon = ascii ":"
+word_at Hash = ascii "#"
+word_at Close = ascii "}"
+word_at Less = ascii "<"
+word_at As = ascii " as "
+word_at More = ascii ">"
+word_at ValueLess = ascii "::<"
+word_at CommaBlank = ascii ", "
+word_at Plus = ascii " + "
+word_at Ref = ascii "&"
+word_at Mut = ascii "mut "
+word_at PtrConst = ascii "*const "
+word_at PtrMut = ascii "*mut "
+word_at Bracket = ascii "["
+word_at Semicolon = ascii "; "
+word_at BracketEnd = ascii "]"
+word_at Paren = ascii "("
+word_at Comma = ascii ","
+word_at ParenEnd = ascii ")"
+word_at Unsafe = ascii "unsafe "
+word_at Extern = ascii "extern \""
+word_at ExternEnd = ascii "\" "
+word_at Fn = ascii "fn("
+word_at Arrow = ascii " -> "
+word_at Dyn = ascii "dyn "
+word_at Is = ascii " is "
+word_at Splat = ascii "#[splat] "
+word_at Equals = ascii " = "
+word_at Range = ascii "..="
+word_at Or = ascii " | "
+word_at Null = ascii "!null"
+word_at Underscore = ascii "_"
+word_at Minus = ascii "-"
+word_at False = ascii "false"
+word_at True = ascii "true"
+word_at Brace = ascii "{"
+word_at Star = ascii "*"
+word_at Fields = ascii " { "
+word_at Field = ascii ": "
+word_at FieldsEnd = ascii " }"
+word_at Hex = ascii "0x"
+word_at C = ascii "C"
+word_at For = ascii "for<"
+word_at ForEnd = ascii "> "
+word_at Tick = ascii "'"
 
--- the word of a number; none past the last
-unfoldable pub word_at : ℕ → List ℕ
-unfolding words
-word_at k = get_or words k []
+-- their names, as other specs have them
+abbrev pub invalid : Word
+invalid = Invalid
 
--- their names, as the code has them
-abbrev pub invalid : ℕ
-invalid = 0
+abbrev pub deep : Word
+deep = Deep
 
-abbrev pub deep : ℕ
-deep = 1
+abbrev pub ask : Word
+ask = Ask
 
-abbrev pub ask : ℕ
-ask = 2
+abbrev pub colons : Word
+colons = Colons
 
-abbrev pub colons : ℕ
-colons = 3
+abbrev pub special : Word
+special = Special
 
-abbrev pub special : ℕ
-special = 4
+abbrev pub closure : Word
+closure = Closure
 
-abbrev pub closure : ℕ
-closure = 5
+abbrev pub shim : Word
+shim = Shim
 
-abbrev pub shim : ℕ
-shim = 6
+abbrev pub colon : Word
+colon = Colon
 
-abbrev pub colon : ℕ
-colon = 7
+abbrev pub hash : Word
+hash = Hash
 
-abbrev pub hash : ℕ
-hash = 8
+abbrev pub close : Word
+close = Close
 
-abbrev pub close : ℕ
-close = 9
+abbrev pub less : Word
+less = Less
 
-abbrev pub less : ℕ
-less = 10
+abbrev pub as-trait : Word
+as-trait = As
 
-abbrev pub as-trait : ℕ
-as-trait = 11
+abbrev pub more : Word
+more = More
 
-abbrev pub more : ℕ
-more = 12
+abbrev pub value-less : Word
+value-less = ValueLess
 
-abbrev pub value-less : ℕ
-value-less = 13
+abbrev pub comma-blank : Word
+comma-blank = CommaBlank
 
-abbrev pub comma-blank : ℕ
-comma-blank = 14
+abbrev pub plus : Word
+plus = Plus
 
-abbrev pub plus : ℕ
-plus = 15
+abbrev pub ref : Word
+ref = Ref
 
-abbrev pub ref : ℕ
-ref = 16
+abbrev pub mut : Word
+mut = Mut
 
-abbrev pub mut : ℕ
-mut = 17
+abbrev pub ptr-const : Word
+ptr-const = PtrConst
 
-abbrev pub ptr-const : ℕ
-ptr-const = 18
+abbrev pub ptr-mut : Word
+ptr-mut = PtrMut
 
-abbrev pub ptr-mut : ℕ
-ptr-mut = 19
+abbrev pub bracket : Word
+bracket = Bracket
 
-abbrev pub bracket : ℕ
-bracket = 20
+abbrev pub semicolon : Word
+semicolon = Semicolon
 
-abbrev pub semicolon : ℕ
-semicolon = 21
+abbrev pub bracket-end : Word
+bracket-end = BracketEnd
 
-abbrev pub bracket-end : ℕ
-bracket-end = 22
+abbrev pub paren : Word
+paren = Paren
 
-abbrev pub paren : ℕ
-paren = 23
+abbrev pub comma : Word
+comma = Comma
 
-abbrev pub comma : ℕ
-comma = 24
+abbrev pub paren-end : Word
+paren-end = ParenEnd
 
-abbrev pub paren-end : ℕ
-paren-end = 25
+abbrev pub unsafe : Word
+unsafe = Unsafe
 
-abbrev pub unsafe : ℕ
-unsafe = 26
+abbrev pub extern : Word
+extern = Extern
 
-abbrev pub extern : ℕ
-extern = 27
+abbrev pub extern-end : Word
+extern-end = ExternEnd
 
-abbrev pub extern-end : ℕ
-extern-end = 28
+abbrev pub fn : Word
+fn = Fn
 
-abbrev pub fn : ℕ
-fn = 29
+abbrev pub arrow : Word
+arrow = Arrow
 
-abbrev pub arrow : ℕ
-arrow = 30
+abbrev pub dyn : Word
+dyn = Dyn
 
-abbrev pub dyn : ℕ
-dyn = 31
+abbrev pub is : Word
+is = Is
 
-abbrev pub is : ℕ
-is = 32
+abbrev pub splat : Word
+splat = Splat
 
-abbrev pub splat : ℕ
-splat = 33
+abbrev pub equals : Word
+equals = Equals
 
-abbrev pub equals : ℕ
-equals = 34
+abbrev pub range : Word
+range = Range
 
-abbrev pub range : ℕ
-range = 35
+abbrev pub or : Word
+or = Or
 
-abbrev pub or : ℕ
-or = 36
+abbrev pub null : Word
+null = Null
 
-abbrev pub null : ℕ
-null = 37
+abbrev pub underscore : Word
+underscore = Underscore
 
-abbrev pub underscore : ℕ
-underscore = 38
+abbrev pub minus : Word
+minus = Minus
 
-abbrev pub minus : ℕ
-minus = 39
+abbrev pub false : Word
+false = False
 
-abbrev pub false : ℕ
-false = 40
+abbrev pub true : Word
+true = True
 
-abbrev pub true : ℕ
-true = 41
+abbrev pub brace : Word
+brace = Brace
 
-abbrev pub brace : ℕ
-brace = 42
+abbrev pub star : Word
+star = Star
 
-abbrev pub star : ℕ
-star = 43
+abbrev pub fields : Word
+fields = Fields
 
-abbrev pub fields : ℕ
-fields = 44
+abbrev pub field : Word
+field = Field
 
-abbrev pub field : ℕ
-field = 45
+abbrev pub fields-end : Word
+fields-end = FieldsEnd
 
-abbrev pub fields-end : ℕ
-fields-end = 46
+abbrev pub hex : Word
+hex = Hex
 
-abbrev pub hex : ℕ
-hex = 47
+abbrev pub c : Word
+c = C
 
-abbrev pub c : ℕ
-c = 48
+abbrev pub for : Word
+for = For
 
-abbrev pub for : ℕ
-for = 49
+abbrev pub for-end : Word
+for-end = ForEnd
 
-abbrev pub for-end : ℕ
-for-end = 50
-
-abbrev pub tick : ℕ
-tick = 51
+abbrev pub tick : Word
+tick = Tick

@@ -1,8 +1,8 @@
-// The basic types: constant arrays of letters, starts and lengths over one run of name bytes; and, for the test that every type goes
+// The basic types: constant arrays of letters, starts and lengths over one run of name bytes, a form that document 01 fixes; and, for the test that every type goes
 // through, their letters as a set. An array is stored anew wherever it is used: that is paid for a name, not for every type.
 ghost use Rattle.std.specs.Prelude.{◌≡◌};
 ghost use Rattle.pieces.specs.Laid.{Wrote};
-ghost use Rattle.pieces.specs.Basic.{is_basic, basic_name};
+ghost use Rattle.pieces.specs.Basic.{place, is_basic, basic_name};
 
 use crate::put::{Put, put_run};
 
@@ -23,17 +23,24 @@ const NAMES: [u8; 64] = *b"i8boolcharf64strf32u8isizeusizei32u32i128u128_i16u16(
 // The same letters as a set: a bit for each, that of `a` the lowest.
 const SET: u64 = 0x3bcfbbf;
 
+// A lower-case letter's place in the alphabet.
+fn place(tag: u8) -> Option<usize>
+    ensures { result ≡ place tag }
+{
+    match tag {
+        b'a'..=b'z' => Some(usize::from(tag - b'a')),
+        _ => None,
+    }
+}
+
 // Whether a letter names a basic type.
+#[tactic(auto, using(crate::proofs::BasicLaws::is_basic_laws), unfolding(crate::specs::Basic::is_basic, crate::specs::Basic::among, crate::specs::Basic::basic))]
 pub fn is_basic(tag: u8) -> bool
     ensures { result ≡ is_basic tag }
 {
-    if tag < 97 {
+    let Some(k) = place(tag) else {
         return false;
-    }
-    let k = (tag - 97) as u64;
-    if k >= 26 {
-        return false;
-    }
+    };
     (SET >> k) % 2 == 1
 }
 
@@ -41,19 +48,14 @@ pub fn is_basic(tag: u8) -> bool
 pub fn put_basic(out: &mut [u8], tag: u8) -> Put
     ensures { Wrote (basic_name tag) out.old out.new result }
 {
-    if tag < 97 {
-        return Put::Done(0);
-    }
-    let k = (tag - 97) as usize;
-    if k >= 26 {
-        return Put::Done(0);
-    }
+    let Some(k) = place(tag) else {
+        return Ok(0);
+    };
     if LETTERS[k] != tag {
-        return Put::Done(0);
+        return Ok(0);
     }
-    let a = STARTS[k] as usize;
-    let n = LENGTHS[k] as usize;
-    let e = a + n;
+    let start = STARTS[k] as usize;
+    let end = start + LENGTHS[k] as usize;
     let names = NAMES;
-    put_run(out, &names[a..e])
+    put_run(out, &names[start..end])
 }

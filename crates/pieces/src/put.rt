@@ -1,83 +1,80 @@
-// Bytes laid at the front of a lent buffer.
+// Bytes laid at the front of a lent buffer. Each writer is lent the free rest and answers how much of it it took: document 01's form, and so
+// no struct of a buffer and a count.
 ghost use Rattle.std.specs.Prelude.{◌≡◌, [], ◌∷◌, ◌++◌};
 ghost use Rattle.pieces.specs.Laid.{Wrote};
 ghost use Rattle.pieces.specs.Packed.{bytes_of};
 ghost use Rattle.pieces.specs.Names.{dashed, abi_text};
 
-// What a writer answers: how many bytes it wrote, or that the buffer was too short for them; then it is full of their first.
-#[derive(Drop)]
-pub enum Put {
-    Done(usize),
-    NoRoom,
-}
+// The buffer was too short for a text; it is full of the text's first bytes.
+#[derive(Clone, Copy, Debug, PartialEq, Eq)]
+pub struct NoRoom;
 
+// What a writer answers: how many bytes it wrote.
+pub type Put = Result<usize, NoRoom>;
+
+// A run of bytes.
 pub fn put_run(out: &mut [u8], run: &[u8]) -> Put
     ensures { Wrote run.now out.old out.new result }
 {
-    let mut i = 0;
-    while i < run.len() {
-        if i >= out.len() {
-            return Put::NoRoom;
-        }
-        out[i] = run[i];
-        i += 1;
+    let n = run.len().min(out.len());
+    out[..n].copy_from_slice(&run[..n]);
+    if n < run.len() {
+        return Err(NoRoom);
     }
-    Put::Done(i)
+    Ok(n)
 }
 
+// One byte.
 pub fn put_byte(out: &mut [u8], b: u8) -> Put
     ensures { Wrote (b ∷ []) out.old out.new result }
 {
-    if 0 < out.len() {
-        out[0] = b;
-        return Put::Done(1);
+    if out.len() == 0 {
+        return Err(NoRoom);
     }
-    Put::NoRoom
+    out[0] = b;
+    Ok(1)
 }
 
-// The bytes of a run with one more behind them.
+// The bytes of a run with one more behind them. This and the others that write two parts differ in the writers that they call: one function
+// over two closures would hand each the rest of the buffer by a call more, and be no shorter where it is used.
 pub(crate) fn put_run_end(out: &mut [u8], run: &[u8], end: u8) -> Put
     ensures { Wrote (run.now ++ (end ∷ [])) out.old out.new result }
 {
-    let Put::Done(a) = put_run(out, run) else {
-        return Put::NoRoom;
-    };
-    let Put::Done(k) = put_byte(&mut out[a..], end) else {
-        return Put::NoRoom;
-    };
-    Put::Done(a + k)
+    let a = put_run(out, run)?;
+    let k = put_byte(&mut out[a..], end)?;
+    Ok(a + k)
 }
 
 // The bytes of a number of base 256, the lowest first, without those at the top that are 0: a short text that needs no memory.
+// Each byte by its place, `v >> (8 * i)`, would need no `left`, but LLVM makes vectors of that loop, which triples the time of a word.
 pub(crate) fn put_packed(out: &mut [u8], v: u64) -> Put
     ensures { Wrote (bytes_of v) out.old out.new result }
 {
-    let mut i = 0;
     let mut left = v;
-    while left != 0 {
+    for i in 0..8 {
+        if left == 0 {
+            return Ok(i);
+        }
         if i >= out.len() {
-            return Put::NoRoom;
+            return Err(NoRoom);
         }
         out[i] = (left % 256) as u8;
-        left = left / 256;
-        i += 1;
+        left /= 256;
     }
-    Put::Done(i)
+    Ok(8)
 }
 
 // The bytes of an ABI's name, with `-` for `_`.
 pub fn put_abi(out: &mut [u8], run: &[u8]) -> Put
     ensures { Wrote (abi_text run.now) out.old out.new result }
 {
-    let mut i = 0;
-    while i < run.len() {
+    for (i, b) in run.iter().enumerate() {
         if i >= out.len() {
-            return Put::NoRoom;
+            return Err(NoRoom);
         }
-        out[i] = dashed(run[i]);
-        i += 1;
+        out[i] = dashed(*b);
     }
-    Put::Done(i)
+    Ok(run.len())
 }
 
 #[tactic(auto, using(crate::proofs::WritingLaws::dash_laws))]

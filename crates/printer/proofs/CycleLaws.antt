@@ -1,4 +1,9 @@
 -- What the members of the cycle come to: levels, kinds, tags, targets. Assumes nothing.
+use Rattle.printer.proofs.ArmLaws.{list_full, list-error, list_over, list-end, list-more}
+use Rattle.printer.proofs.StateLaws.{tests}
+use Rattle.printer.proofs.WithinLaws.{ident-within, named-within}
+use Rattle.std.specs.Prelude.{Option, Some, None}
+use Rattle.pieces.specs.declared.mode.Mode.{Mode}
 use Prim.Native.Nat.{ℕ, zero, suc, ◌+◌, ◌-◌, ◌≤◌, ◌<◌}
 use mathlib.Core.Path.{◌≡◌, refl, ap, sym, ◌∙◌}
 use mathlib.Core.Bool.{Bool, true, false, not}
@@ -10,17 +15,14 @@ use borrow.Author.Tests.{eq-eqb, ne_eqb, eqb-true, eqb-false}
 use lib.Dec.{eqb}
 use lib.ListN.{length}
 use Rattle.parser.specs.Digits.{if-then}
-use Rattle.parser.specs.Bytes.{past}
+use Rattle.parser.specs.Bytes.{past, space_at}
 use Rattle.parser.specs.Number.{optional62, back_at}
 use Rattle.parser.specs.Names.{ident_at}
-use Rattle.parser.specs.declared.number.Num.{Num}
-use Rattle.parser.specs.declared.number.Num.TheVariants.{Value, Invalid as NoNum}
-use Rattle.parser.specs.declared.number.Back.{Back}
-use Rattle.parser.specs.declared.number.Back.TheVariants.{Target, Invalid as NoBack}
 use Rattle.parser.specs.declared.names.Name.{Name}
-use Rattle.parser.specs.declared.names.Name.TheVariants.{Parts, Invalid as NoName}
 use Rattle.pieces.specs.Basic.{is_basic, among, basic as basic_types}
 use Rattle.pieces.specs.Words as W
+use Rattle.pieces.specs.declared.words.Word.{Word}
+use Rattle.parser.specs.declared.names.Name.{Name}
 use Rattle.pieces.specs.Piece.{word, basic}
 use Rattle.printer.specs.Lay.{State}
 use Rattle.printer.specs.declared.kinds.Kind.{Kind}
@@ -29,18 +31,14 @@ use Rattle.printer.specs.declared.kinds.Item.{Item}
 use Rattle.printer.specs.declared.kinds.Item.TheVariants.{Ty as AType, Arg, Expr as AValue, Field, Trait}
 use Rattle.printer.specs.declared.read.Tag.{Tag}
 use Rattle.printer.specs.Says.{U, ok, bad, Says, Stop, ◌>>=◌, ◌then◌, give, emit, on_error, breaks, broken, reader, taken, need, choose, caught, refused, asking, saying, asks, pick, too_deep}
-use Rattle.printer.specs.Readings.{tag_at, mark_at, letter_at, named_at}
-use Rattle.printer.specs.declared.read.Letter.{Letter}
-use Rattle.printer.specs.declared.read.Letter.TheVariants.{Of as Ns, Invalid as NoLetter}
-use Rattle.printer.specs.declared.read.Named.{Named}
-use Rattle.printer.specs.declared.read.Named.TheVariants.{Of as Called, Invalid as NoNamed}
+use Rattle.printer.specs.Readings.{tag_at, mark_at, named_at}
 use Rattle.printer.specs.Lay.{World, world, Out, out, lays, lay, moved_to, back_to, failed_at, follows}
 use Rattle.printer.specs.Model as g
 use Rattle.printer.specs.Parts as part
 use Rattle.printer.specs.Model.{say_if}
 use Rattle.printer.specs.Letters.{'B', 'I', 'K', 'L', 'R', 'O', 'N'}
 use Rattle.printer.proofs.LayLaws.{lay-nil, lay-caught, lays-caught, lays-same, lays-moved, lays-still, lays-failed, backed, doing-run}
-use Rattle.printer.proofs.NeedLaws.{num-next, num-fails, letter-next, letter-fails, back-next, back-fails, named-next, named-fails}
+use Rattle.printer.proofs.NeedLaws.{read-next, read-fails, named-next, named-fails}
 use Rattle.printer.proofs.StateLaws.{Halted}
 use Rattle.printer.proofs.ArmLaws.{arm-there, arm-then, arm-bind, arm-list, arm-mute-then, arm-stop, arm-error, arm-run, arm-moved, need-stop, eat-stop, eat-no, eat-yes}
 use Rattle.printer.proofs.TagLaws.{true-false, bare-run, byte-in, byte-out, or-key-run, or-rest-run, tag-next, tag-rest, tag_same, tag-unknown, or-next, or-rest}
@@ -60,13 +58,6 @@ rank Arg = 2
 rank AValue = 0
 rank Field = 1
 rank Trait = 7
-
-pub rank-small : (k : Item) → rank k ≤ 7
-rank-small AType = omega arith
-rank-small Arg = omega arith
-rank-small AValue = omega arith
-rank-small Field = omega arith
-rank-small Trait = omega arith
 
 -- ---- at a state that has stopped every part is `?`
 module _ (s : List ℕ) (f : Bool) (b : ℕ) where
@@ -98,7 +89,7 @@ module _ (s : List ℕ) (f : Bool) (b : ℕ) where
   unfolding g.dyn_trait g.open_path g.or_tag ◌>>=◌ reader
   trait-asks n = ap (λ (t : Stop U). record { value = t.value; turn = λ x. t.turn x; pieces = asks ++ t.pieces }) (binds-still (g.level s n) (length s))
 
-module _ (m : ℕ) (s : List ℕ) (n : ℕ) (f : Bool) (b : ℕ) (o : List ℕ) (st : State) (w : World) (stopped : Halted st) (asked : w ≡ lay m (emit asks) (world o st)) where
+module _ (m : Option Mode) (s : List ℕ) (n : ℕ) (f : Bool) (b : ℕ) (o : List ℕ) (st : State) (w : World) (stopped : Halted st) (asked : w ≡ lay m (emit asks) (world o st)) where
   pub path-stop : (value : Bool) → w ≡ lay m ((g.level s n).path value f b) (world o st)
   path-stop value = arm-stop m _ o st w (path-asks s f b n value) stopped asked
 
@@ -139,7 +130,7 @@ module _ (m : ℕ) (s : List ℕ) (n : ℕ) (f : Bool) (b : ℕ) (o : List ℕ) 
   field-stop = need-stop m _ _ o st w stopped asked
 
 -- ---- by the kind
-module _ (m : ℕ) (s : List ℕ) (p : g.Level) (k : Kind) (f : Bool) (b : ℕ) (v w : World) where
+module _ (m : Option Mode) (s : List ℕ) (p : g.Level) (k : Kind) (f : Bool) (b : ℕ) (v w : World) where
   pub says-path : k ≡ Path → w ≡ lay m (p.path false f b) v → w ≡ lay m (g.says s p k f b) v
   unfolding g.says
   says-path h q = rw h q
@@ -162,7 +153,7 @@ module _ (m : ℕ) (s : List ℕ) (p : g.Level) (k : Kind) (f : Bool) (b : ℕ) 
 
 pub ruleset visit-laws = (says-path, says-value, says-type, says-const, says-expr)
 
-module _ (m : ℕ) (s : List ℕ) (p : g.Level) (k : Item) (f : Bool) (b : ℕ) (v w : World) where
+module _ (m : Option Mode) (s : List ℕ) (p : g.Level) (k : Item) (f : Bool) (b : ℕ) (v w : World) where
   pub item-type : k ≡ AType → w ≡ lay m (g.type s p f b) v → w ≡ lay m (g.element s p k f b) v
   unfolding g.element
   item-type h q = rw h q
@@ -186,7 +177,7 @@ module _ (m : ℕ) (s : List ℕ) (p : g.Level) (k : Item) (f : Bool) (b : ℕ) 
 pub ruleset one_laws = (item-type, item-arg, item-value, item-field, item-trait)
 
 -- ---- a level more
-module _ (m : ℕ) (s : List ℕ) (n : ℕ) (value f : Bool) (b : ℕ) (o : List ℕ) (st : State) (w : World) where
+module _ (m : Option Mode) (s : List ℕ) (n : ℕ) (value f : Bool) (b : ℕ) (o : List ℕ) (st : State) (w : World) where
   pub path-deep : n ≡ 0 → st.error ≡ 0 → w ≡ lay m (breaks too_deep) (world o st) → w ≡ lay m ((g.level s n).path value f b) (world o st)
   unfolding g.level breaks reader
   path-deep z e p = rw z (arm-run m ((g.level s 0).path value f b) (breaks too_deep) o st w e p refl)
@@ -201,7 +192,7 @@ module _ (m : ℕ) (s : List ℕ) (n : ℕ) (value f : Bool) (b : ℕ) (o : List
   pub con-next : (n ≡ 0 → ⊥) → w ≡ lay m (g.by_tag s tt (g.const_tags s (g.level s (n - 1)) value f b) (g.integer s)) (world o st) → w ≡ lay m ((g.level s n).con value f b) (world o st)
   con-next some p = p ∙ ap (λ (l : g.Level). lay m (l.con value f b) (world o st)) (sym (level-is s n some))
 
-module _ (m : ℕ) (s : List ℕ) (n : ℕ) (f : Bool) (b : ℕ) (o : List ℕ) (st : State) (w : World) where
+module _ (m : Option Mode) (s : List ℕ) (n : ℕ) (f : Bool) (b : ℕ) (o : List ℕ) (st : State) (w : World) where
   pub ors-deep : n ≡ 0 → st.error ≡ 0 → w ≡ lay m (breaks too_deep) (world o st) → w ≡ lay m ((g.level s n).ors f b) (world o st)
   unfolding g.level breaks reader
   ors-deep z e p = rw z (arm-run m ((g.level s 0).ors f b) (breaks too_deep) o st w e p refl)
@@ -220,7 +211,7 @@ unfolding part.typed
 bare-as s i x answered p f b h = bare-run s i x answered (g.type_tags s p f b) (p.path false f b).run h
 
 -- a type: x is what `look` answered, y what `is_basic` answered
-module _ (m : ℕ) (s : List ℕ) (n : ℕ) (f : Bool) (b : ℕ) (o : List ℕ) (st : State) (w : World) (x : Tag) (answered : x ≡ tag_at s st.place) (none : st.error ≡ 0) (y : Bool) (judged : y ≡ is_basic x.byte) where
+module _ (m : Option Mode) (s : List ℕ) (n : ℕ) (f : Bool) (b : ℕ) (o : List ℕ) (st : State) (w : World) (x : Tag) (answered : x ≡ tag_at s st.place) (none : st.error ≡ 0) (y : Bool) (judged : y ≡ is_basic x.byte) where
   basic-some : (c : ℕ) → is_basic c ≡ true → eqb c 0 ≡ false
   unfolding is_basic among basic_types
   basic-some zero h = absurd (true-false (sym h))
@@ -247,7 +238,7 @@ module _ (m : ℕ) (s : List ℕ) (n : ℕ) (f : Bool) (b : ℕ) (o : List ℕ) 
 pub ruleset bare-laws = (bare-stop, bare-basic, bare-deep, bare-next)
 
 -- ---- by the tag: x is what `look` answered
-module _ (m : ℕ) (s : List ℕ) (p : g.Level) (value : Bool) (f : Bool) (b : ℕ) (o : List ℕ) (st : State) (w : World) (x : Tag) (answered : x ≡ tag_at s st.place) (none : st.error ≡ 0) where
+module _ (m : Option Mode) (s : List ℕ) (p : g.Level) (value : Bool) (f : Bool) (b : ℕ) (o : List ℕ) (st : State) (w : World) (x : Tag) (answered : x ≡ tag_at s st.place) (none : st.error ≡ 0) where
   pub path-crate : (mv : State) → x.byte ≡ 67 → st.full ≡ false → mv ≡ moved_to x.behind st → w ≡ lay m (g.krate s) (world o mv) → w ≡ lay m (g.by_tag s tt (g.path_tags s p value f b) g.unknown) (world o st)
   unfolding g.path_tags pick
   path-crate mv h u l q = tag-next m s o st w x answered none _ g.unknown (g.krate s) mv 67 h refl u l q refl
@@ -280,7 +271,7 @@ module _ (m : ℕ) (s : List ℕ) (p : g.Level) (value : Bool) (f : Bool) (b : �
   unfolding g.path_tags pick
   path-other n67 n78 nn n89 n73 n66 q = tag-unknown m s o st w x answered none (g.path_tags s p value f b) (λ j. rw (ne_eqb x.byte 67 n67, ne_eqb x.byte 78 n78, ne_eqb x.byte 77 (λ e. nn (inl e)), ne_eqb x.byte 88 (λ e. nn (inr e)), ne_eqb x.byte 89 n89, ne_eqb x.byte 73 n73, ne_eqb x.byte 66 n66, pick)) q
 
-module _ (m : ℕ) (s : List ℕ) (p : g.Level) (f : Bool) (b : ℕ) (o : List ℕ) (st : State) (w : World) (x : Tag) (answered : x ≡ tag_at s st.place) (none : st.error ≡ 0) where
+module _ (m : Option Mode) (s : List ℕ) (p : g.Level) (f : Bool) (b : ℕ) (o : List ℕ) (st : State) (w : World) (x : Tag) (answered : x ≡ tag_at s st.place) (none : st.error ≡ 0) where
   pub type-ref : (mv : State) → x.byte ≡ 82 → st.full ≡ false → mv ≡ moved_to x.behind st → w ≡ lay m (g.refer s p false f b) (world o mv) → w ≡ lay m (part.typed s p f b) (world o st)
   unfolding part.typed g.type_tags pick
   type-ref mv h u l q = tag-next m s o st w x answered none _ _ (g.refer s p false f b) mv 82 h refl u l q refl
@@ -329,7 +320,7 @@ module _ (m : ℕ) (s : List ℕ) (p : g.Level) (f : Bool) (b : ℕ) (o : List �
   unfolding part.typed part.named g.type_tags pick
   type-named n82 n81 n80 n79 n65 n83 n84 n70 n68 n66 n87 q = tag-rest m s o st w x answered none (g.type_tags s p f b) (λ c k j. (p.path false f b).run k) (λ j. rw (ne_eqb x.byte 82 n82, ne_eqb x.byte 81 n81, ne_eqb x.byte 80 n80, ne_eqb x.byte 79 n79, ne_eqb x.byte 65 n65, ne_eqb x.byte 83 n83, ne_eqb x.byte 84 n84, ne_eqb x.byte 70 n70, ne_eqb x.byte 68 n68, ne_eqb x.byte 66 n66, ne_eqb x.byte 87 n87, pick)) q
 
-module _ (m : ℕ) (s : List ℕ) (p : g.Level) (f : Bool) (b : ℕ) (o : List ℕ) (st : State) (w : World) where
+module _ (m : Option Mode) (s : List ℕ) (p : g.Level) (f : Bool) (b : ℕ) (o : List ℕ) (st : State) (w : World) where
   pub named_in : st.error ≡ 0 → st.place < length s → w ≡ lay m (p.path false f b) (world o st) → w ≡ lay m (part.named s p f b) (world o st)
   unfolding part.named g.by_tag reader pick
   named_in e h q = arm-run m (part.named s p f b) (p.path false f b) o st w e q (rw (byte-in s st.place h))
@@ -344,21 +335,11 @@ pub ruleset named-laws = (named_in, named-out)
 pub record IsLit (c : ℕ) : Type 0 where
   pub is : ◌⊎◌ (Any c 65 (84 ∷ 101 ∷ [])) ((81 ≤ c) × (c < 83))
 
-pub lit-by : {A B : Type 0} → ◌⊎◌ A B → (c : ℕ) → (A → Any c 65 (84 ∷ 101 ∷ [])) → (B → (81 ≤ c) × (c < 83)) → IsLit c
-lit-by k c f h = record { is = ⊎_elim (λ a. inl (f a)) (λ b. inr (h b)) k }
-
 pub record Gap (c : ℕ) : Type 0 where
   pub first : c ≡ 81 → ⊥
   pub second : c ≡ 82 → ⊥
 
-pub gap_by : {A B : Type 0} → ◌⊎◌ A B → (c : ℕ) → (A → c < 81) → (B → 83 ≤ c) → Gap c
-gap_by k c f h =
-    record {
-      first = λ e. ⊎_elim (λ a. let i = f a in absurd (omega (arith, i, e))) (λ b. let i = h b in absurd (omega (arith, i, e))) k;
-      second = λ e. ⊎_elim (λ a. let i = f a in absurd (omega (arith, i, e))) (λ b. let i = h b in absurd (omega (arith, i, e))) k;
-    }
-
-module _ (m : ℕ) (s : List ℕ) (p : g.Level) (value : Bool) (f : Bool) (b : ℕ) (o : List ℕ) (st : State) (w : World) (x : Tag) (answered : x ≡ tag_at s st.place) (none : st.error ≡ 0) where
+module _ (m : Option Mode) (s : List ℕ) (p : g.Level) (value : Bool) (f : Bool) (b : ℕ) (o : List ℕ) (st : State) (w : World) (x : Tag) (answered : x ≡ tag_at s st.place) (none : st.error ≡ 0) where
   pub con-placeholder : (mv : State) → x.byte ≡ 112 → st.full ≡ false → mv ≡ moved_to x.behind st → w ≡ lay m (g.say W.underscore) (world o mv) → w ≡ lay m (g.by_tag s tt (g.const_tags s p value f b) (g.integer s)) (world o st)
   unfolding g.const_tags pick
   con-placeholder mv h u l q = tag-next m s o st w x answered none _ (g.integer s) (g.say W.underscore) mv 112 h refl u l q refl
@@ -392,7 +373,7 @@ module _ (m : ℕ) (s : List ℕ) (p : g.Level) (value : Bool) (f : Bool) (b : �
   con-integer nn gp n112 n98 n99 n86 n66 q = tag-rest m s o st w x answered none (g.const_tags s p value f b) (g.integer s) (λ j. rw (ne_eqb x.byte 112 n112, ne_eqb x.byte 98 n98, ne_eqb x.byte 99 n99, ne_eqb x.byte 101 (λ e. nn (inr (inr e))), ne_eqb x.byte 82 gp.second, ne_eqb x.byte 81 gp.first, ne_eqb x.byte 65 (λ e. nn (inl e)), ne_eqb x.byte 84 (λ e. nn (inr (inl e))), ne_eqb x.byte 86 n86, ne_eqb x.byte 66 n66, pick)) q
 
 -- a string that is referred to: y is what `string_mark` answered
-module _ (m : ℕ) (s : List ℕ) (p : g.Level) (t : ℕ) (value f : Bool) (b : ℕ) (o : List ℕ) (st : State) (w : World) (y : ℕ) (free : st.full ≡ false) (none : st.error ≡ 0) (eaten : y ≡ mark_at s st.place t) where
+module _ (m : Option Mode) (s : List ℕ) (p : g.Level) (t : ℕ) (value f : Bool) (b : ℕ) (o : List ℕ) (st : State) (w : World) (y : ℕ) (free : st.full ≡ false) (none : st.error ≡ 0) (eaten : y ≡ mark_at s st.place t) where
   lit-here : (mv : State) → eqb t 82 ≡ true → (y ≡ st.place → ⊥) → mv ≡ moved_to y st → w ≡ lay m (g.literal s) (world o mv) → w ≡ lay m (part.lit_by s p t value f b) (world o st)
   unfolding part.lit_by g.ref_const choose mark_at
   lit-here mv e h l q = rw e (eat-yes m s 101 _ o st w y free none (eaten ∙ rw e) mv h l q)
@@ -425,7 +406,7 @@ module _ (m : ℕ) (s : List ℕ) (p : g.Level) (t : ℕ) (value f : Bool) (b : 
 
 pub ruleset lit-laws = (lit-string, lit-braced)
 
-module _ (m : ℕ) (s : List ℕ) (p : g.Level) (f : Bool) (b : ℕ) (o : List ℕ) (st : State) (w : World) (x : Tag) (answered : x ≡ tag_at s st.place) (none : st.error ≡ 0) where
+module _ (m : Option Mode) (s : List ℕ) (p : g.Level) (f : Bool) (b : ℕ) (o : List ℕ) (st : State) (w : World) (x : Tag) (answered : x ≡ tag_at s st.place) (none : st.error ≡ 0) where
   pub arg-life : (mv : State) → x.byte ≡ 76 → st.full ≡ false → mv ≡ moved_to x.behind st → w ≡ lay m (g.lifetime s f b) (world o mv) → w ≡ lay m (g.arg s p f b) (world o st)
   unfolding g.arg pick
   arg-life mv h u l q = or-next m s o st w x answered none _ _ (g.lifetime s f b) mv 76 h refl u l q refl
@@ -440,7 +421,7 @@ module _ (m : ℕ) (s : List ℕ) (p : g.Level) (f : Bool) (b : ℕ) (o : List �
 
 pub ruleset arg_laws = (arg-stop, arg-life, arg-const, arg-type)
 
-module _ (m : ℕ) (s : List ℕ) (p : g.Level) (f : Bool) (b : ℕ) (o : List ℕ) (st : State) (w : World) (x : Tag) (answered : x ≡ tag_at s st.place) (none : st.error ≡ 0) where
+module _ (m : Option Mode) (s : List ℕ) (p : g.Level) (f : Bool) (b : ℕ) (o : List ℕ) (st : State) (w : World) (x : Tag) (answered : x ≡ tag_at s st.place) (none : st.error ≡ 0) where
   pub pat-range : (mv : State) → x.byte ≡ 82 → st.full ≡ false → mv ≡ moved_to x.behind st → w ≡ lay m (g.range s p f b) (world o mv) → w ≡ lay m (g.pat s p f b) (world o st)
   unfolding g.pat pick
   pat-range mv h u l q = tag-next m s o st w x answered none _ g.unknown (g.range s p f b) mv 82 h refl u l q refl
@@ -459,7 +440,7 @@ module _ (m : ℕ) (s : List ℕ) (p : g.Level) (f : Bool) (b : ℕ) (o : List �
 
 pub ruleset pat-laws = (pat-stop, pat-range, pat-or, pat-null, pat-other)
 
-module _ (m : ℕ) (s : List ℕ) (p : g.Level) (value : Bool) (f : Bool) (b : ℕ) (o : List ℕ) (st : State) (w : World) (x : Tag) (answered : x ≡ tag_at s st.place) (none : st.error ≡ 0) where
+module _ (m : Option Mode) (s : List ℕ) (p : g.Level) (value : Bool) (f : Bool) (b : ℕ) (o : List ℕ) (st : State) (w : World) (x : Tag) (answered : x ≡ tag_at s st.place) (none : st.error ≡ 0) where
   pub variant-unit : (mv : State) → x.byte ≡ 85 → st.full ≡ false → mv ≡ moved_to x.behind st → w ≡ lay m (say_if (not value) W.close) (world o mv) → w ≡ lay m (g.variant s p value f b) (world o st)
   unfolding g.variant pick
   variant-unit mv h u l q = tag-next m s o st w x answered none _ g.unknown (say_if (not value) W.close) mv 85 h refl u l q refl
@@ -487,14 +468,14 @@ target-off : {A : Type 0} (s : List ℕ) (z : A) (a : g.Deep A) (f : Bool) (b v 
 unfolding g.target reader
 target-off s z a f b v i h = rw h
 
-on-follows : (m : ℕ) → (m ≡ 0 → ⊥) → follows m ≡ true
-on-follows zero h = absurd (h refl)
-on-follows (suc m) h = refl
+on-follows : (m : Option Mode) → (m ≡ None → ⊥) → follows m ≡ true
+on-follows None h = absurd (h refl)
+on-follows (Some m) h = refl
 
-off-follows : (m : ℕ) → m ≡ 0 → follows m ≡ false
+off-follows : (m : Option Mode) → m ≡ None → follows m ≡ false
 off-follows m h = rw h
 
-module _ (m : ℕ) (s : List ℕ) (n : ℕ) (k : Kind) (b v : ℕ) (o : List ℕ) (st mv : State) where
+module _ (m : Option Mode) (s : List ℕ) (n : ℕ) (k : Kind) (b v : ℕ) (o : List ℕ) (st mv : State) where
   pub aim-deep : (w : World) → n ≡ 0 → st.error ≡ 0 → mv ≡ st → w ≡ lay m (breaks too_deep) (world o mv) → w ≡ lay m ((g.level s n).aim k (follows m) b v) (world o st)
   unfolding g.level breaks reader
   aim-deep w z e l p = rw z (arm-run m ((g.level s 0).aim k (follows m) b v) (breaks too_deep) o st w e (arm-there m (breaks too_deep) o st mv w l p) refl)
@@ -503,14 +484,14 @@ module _ (m : ℕ) (s : List ℕ) (n : ℕ) (k : Kind) (b v : ℕ) (o : List ℕ
     aim-above : (w : World) → w ≡ lay m ((g.above s (g.level s (n - 1))).aim k (follows m) b v) (world o st) → w ≡ lay m ((g.level s n).aim k (follows m) b v) (world o st)
     aim-above w p = p ∙ ap (λ (l : g.Level). lay m (l.aim k (follows m) b v) (world o st)) (sym (level-is s n some))
 
-    pub aim-off : m ≡ 0 → mv ≡ st → world o mv ≡ lay m ((g.level s n).aim k (follows m) b v) (world o st)
+    pub aim-off : m ≡ None → mv ≡ st → world o mv ≡ lay m ((g.level s n).aim k (follows m) b v) (world o st)
     aim-off h l =
         let a = g.says s (g.level s (n - 1)) k in
         let e : (emit []).run st.place ≡ ok tt st.place false [] = unfold emit in refl in
         ap (world o) l ∙ aim-above (world o st)
         (arm-run m (g.target s tt a (follows m) b v) (emit []) o st (world o st) none (sym (lay-nil m (world o st))) (e ∙ sym (target-off s tt a (follows m) b v st.place (off-follows m h))))
 
-    pub aim-shown : (o1 : List ℕ) (r1 r2 : State) → st.full ≡ false → (m ≡ 0 → ⊥) → mv ≡ moved_to v st → world o1 r1 ≡ lay m (g.says s (g.level s (n - 1)) k (follows m) b) (world o mv) → r2 ≡ back_to st.place r1 → world o1 r2 ≡ lay m ((g.level s n).aim k (follows m) b v) (world o st)
+    pub aim-shown : (o1 : List ℕ) (r1 r2 : State) → st.full ≡ false → (m ≡ None → ⊥) → mv ≡ moved_to v st → world o1 r1 ≡ lay m (g.says s (g.level s (n - 1)) k (follows m) b) (world o mv) → r2 ≡ back_to st.place r1 → world o1 r2 ≡ lay m ((g.level s n).aim k (follows m) b v) (world o st)
     aim-shown o1 r1 r2 u h l p1 p2 =
         let a = g.says s (g.level s (n - 1)) k in
         aim-above (world o1 r2)
@@ -520,7 +501,7 @@ module _ (m : ℕ) (s : List ℕ) (n : ℕ) (k : Kind) (b v : ℕ) (o : List ℕ
 pub ruleset aim-laws = (aim-deep, aim-off, aim-shown)
 
 -- ---- open paths
-module _ (m : ℕ) (s : List ℕ) (p : g.Level) (f : Bool) (b : ℕ) (v : World) where
+module _ (m : Option Mode) (s : List ℕ) (p : g.Level) (f : Bool) (b : ℕ) (v : World) where
   pub shut-is : (o : List ℕ) (st : State) → world o st ≡ lay m (p.path false f b) v → out false (world o st) ≡ lays false m (g.shut_path s p f b) v
   unfolding g.shut_path
   shut-is o st q = told-then m (p.path false f b) (give false) v (world o st) _ q (given-false m o st)
@@ -529,12 +510,12 @@ module _ (m : ℕ) (s : List ℕ) (p : g.Level) (f : Bool) (b : ℕ) (v : World)
   unfolding g.open_generic g.list g.sep_of g.element
   generic-open x y o n st t q r l h = told-then m _ _ v x _ q (told-then m _ _ x y _ r (told-list m _ _ y (out n (world o st)) _ l (given-true m t o st h)))
 
-module _ (m : ℕ) (s : List ℕ) (p : g.Level) (f : Bool) (b : ℕ) (o : List ℕ) (st mv : State) where
-  pub open-fails : (x : Back) (r : State) (o1 : List ℕ) → st.error ≡ 0 → x ≡ back_at s st.place → x ≡ NoBack → mv ≡ st → world o1 r ≡ lay m broken (world o mv) → out false (world o1 r) ≡ lays false m (g.open_back s p f b) (world o st)
+module _ (m : Option Mode) (s : List ℕ) (p : g.Level) (f : Bool) (b : ℕ) (o : List ℕ) (st mv : State) where
+  pub open-fails : (x : Option (ℕ × ℕ)) (r : State) (o1 : List ℕ) → st.error ≡ 0 → x ≡ back_at s st.place → x ≡ None → mv ≡ st → world o1 r ≡ lay m broken (world o mv) → out false (world o1 r) ≡ lays false m (g.open_back s p f b) (world o st)
   unfolding g.open_back need reader taken broken
   open-fails x r o1 e h k l q = told-refused m 0 (g.open_back s p f b) o st mv r o1 e l (rw (← h, k)) q
 
-  pub open_next : (x : Back) (v q : ℕ) (z : Out Bool) → st.full ≡ false → st.error ≡ 0 → x ≡ back_at s st.place → x ≡ Target v q → mv ≡ moved_to q st → z ≡ lays false m (p.open_at f b v) (world o mv) → z ≡ lays false m (g.open_back s p f b) (world o st)
+  pub open_next : (x : Option (ℕ × ℕ)) (v q : ℕ) (z : Out Bool) → st.full ≡ false → st.error ≡ 0 → x ≡ back_at s st.place → x ≡ Some (v, q) → mv ≡ moved_to q st → z ≡ lays false m (p.open_at f b v) (world o mv) → z ≡ lays false m (g.open_back s p f b) (world o st)
   unfolding g.open_back need reader taken
   open_next x v q z u e h k l r = told-there false m (p.open_at f b v) o (moved_to q st) mv z l r ∙ sym (lays-moved false m (g.open_back s p f b) (p.open_at f b v) q o st u e (rw (← h, k)))
 
@@ -551,14 +532,14 @@ module _ (m : ℕ) (s : List ℕ) (p : g.Level) (f : Bool) (b : ℕ) (o : List �
     unfolding pick
     open-generic u h l r = open-picks (g.open_generic s p f b) 73 u h refl l refl r
 
-module _ (m : ℕ) (s : List ℕ) (p : g.Level) (f : Bool) (b : ℕ) (o : List ℕ) (st : State) (x : Tag) (answered : x ≡ tag_at s st.place) (none : st.error ≡ 0) (z : Out Bool) where
+module _ (m : Option Mode) (s : List ℕ) (p : g.Level) (f : Bool) (b : ℕ) (o : List ℕ) (st : State) (x : Tag) (answered : x ≡ tag_at s st.place) (none : st.error ≡ 0) (z : Out Bool) where
   pub open-other : (x.byte ≡ 66 → ⊥) → (x.byte ≡ 73 → ⊥) → z ≡ lays false m (g.shut_path s p f b) (world o st) → z ≡ lays false m (g.open_path s p f b) (world o st)
   unfolding g.open_path pick
   open-other n1 n2 r = r ∙ lays-same false m (g.shut_path s p f b) (g.open_path s p f b) (world o st) (doing-run _ _ st.place st.error none (sym (or-rest-run s st.place x answered false (('B', g.open_back s p f b) ∷ ('I', g.open_generic s p f b) ∷ []) (g.shut_path s p f b).run (λ j. rw (ne_eqb x.byte 66 n1, ne_eqb x.byte 73 n2, pick)))))
 
 pub ruleset open-laws = (shut-is, generic-open, open-fails, open_next, open-other, open-back, open-generic)
 
-module _ (m : ℕ) (s : List ℕ) (n b v : ℕ) (o : List ℕ) (st mv : State) where
+module _ (m : Option Mode) (s : List ℕ) (n b v : ℕ) (o : List ℕ) (st mv : State) where
   pub oaim-deep : (r : State) (o1 : List ℕ) → n ≡ 0 → st.error ≡ 0 → mv ≡ st → world o1 r ≡ lay m (breaks too_deep) (world o mv) → out false (world o1 r) ≡ lays false m ((g.level s n).open_at (follows m) b v) (world o st)
   unfolding g.level reader
   oaim-deep r o1 z e l p = rw z (told-refused m 1 ((g.level s 0).open_at (follows m) b v) o st mv r o1 e l refl p)
@@ -567,13 +548,13 @@ module _ (m : ℕ) (s : List ℕ) (n b v : ℕ) (o : List ℕ) (st mv : State) w
     oaim-above : (z : Out Bool) → z ≡ lays false m ((g.above s (g.level s (n - 1))).open_at (follows m) b v) (world o st) → z ≡ lays false m ((g.level s n).open_at (follows m) b v) (world o st)
     oaim-above z p = p ∙ ap (λ (l : g.Level). lays false m (l.open_at (follows m) b v) (world o st)) (sym (level-is s n some))
 
-    pub oaim-off : st.full ≡ false → m ≡ 0 → mv ≡ st → out false (world o mv) ≡ lays false m ((g.level s n).open_at (follows m) b v) (world o st)
+    pub oaim-off : st.full ≡ false → m ≡ None → mv ≡ st → out false (world o mv) ≡ lays false m ((g.level s n).open_at (follows m) b v) (world o st)
     oaim-off u h l =
         let a = g.open_path s (g.level s (n - 1)) in
         ap (λ (x : State). out false (world o x)) l ∙ oaim-above (out false (world o st))
         (sym (lays-still false false m (g.target s false a (follows m) b v) o st st.place u none (target-off s false a (follows m) b v st.place (off-follows m h))))
 
-    pub oaim-shown : (o1 : List ℕ) (t : Bool) (r1 r2 : State) → st.full ≡ false → (m ≡ 0 → ⊥) → mv ≡ moved_to v st → out t (world o1 r1) ≡ lays false m (g.open_path s (g.level s (n - 1)) (follows m) b) (world o mv) → r2 ≡ back_to st.place r1 → out t (world o1 r2) ≡ lays false m ((g.level s n).open_at (follows m) b v) (world o st)
+    pub oaim-shown : (o1 : List ℕ) (t : Bool) (r1 r2 : State) → st.full ≡ false → (m ≡ None → ⊥) → mv ≡ moved_to v st → out t (world o1 r1) ≡ lays false m (g.open_path s (g.level s (n - 1)) (follows m) b) (world o mv) → r2 ≡ back_to st.place r1 → out t (world o1 r2) ≡ lays false m ((g.level s n).open_at (follows m) b v) (world o st)
     oaim-shown o1 t r1 r2 u h l p1 p2 =
         let a = g.open_path s (g.level s (n - 1)) in
         oaim-above (out t (world o1 r2))
@@ -583,25 +564,25 @@ module _ (m : ℕ) (s : List ℕ) (n b v : ℕ) (o : List ℕ) (st mv : State) w
 pub ruleset oaim-laws = (oaim-deep, oaim-off, oaim-shown)
 
 -- ---- bindings: one of them
-module _ (m : ℕ) (s : List ℕ) (p : g.Level) (f : Bool) (b : ℕ) (o : List ℕ) (st : State) where
+module _ (m : Option Mode) (s : List ℕ) (p : g.Level) (f : Bool) (b : ℕ) (o : List ℕ) (st : State) where
   pub name-stop : (r : State) (o1 : List ℕ) → Halted st → world o1 r ≡ lay m (emit asks) (world o st) → out false (world o1 r) ≡ lays false m (g.bound_name s p f b) (world o st)
   unfolding g.bound_name need reader
   name-stop r o1 e q = told-asked m (g.bound_name s p f b) o st r o1 refl e q
 
-  module _ (x : Name) (none : st.error ≡ 0) (answered : x ≡ ident_at s st.place) where
-    pub name-fails : (r : State) (o1 : List ℕ) → x ≡ NoName → world o1 r ≡ lay m broken (world o st) → out false (world o1 r) ≡ lays false m (g.bound_name s p f b) (world o st)
+  module _ (x : Option Name) (none : st.error ≡ 0) (answered : x ≡ ident_at s st.place) where
+    pub name-fails : (r : State) (o1 : List ℕ) → x ≡ None → world o1 r ≡ lay m broken (world o st) → out false (world o1 r) ≡ lays false m (g.bound_name s p f b) (world o st)
     unfolding g.bound_name need reader taken broken
     name-fails r o1 k q = told-refused m 0 (g.bound_name s p f b) o st st r o1 none refl (rw (← answered, k)) q
 
-    pub name-next : (a c d e : ℕ) (mv : State) (y : World) (o1 : List ℕ) (r : State) (t : Bool) → st.full ≡ false → x ≡ Parts a c d e → mv ≡ moved_to e st → y ≡ lay m (emit (g.ident s a c d e ∷ word W.equals ∷ [])) (world o mv) → world o1 r ≡ lay m (g.bound_to s p f b) y → t ≡ not r.full → out t (world o1 r) ≡ lays false m (g.bound_name s p f b) (world o st)
-    name-next a c d e mv y o1 r t u k l q1 q2 h =
-        let rest : Says Bool = emit (g.ident s a c d e ∷ word W.equals ∷ []) then g.bound_to s p f b then give true in
+    pub name-next : (n : Name) (mv : State) (y : World) (o1 : List ℕ) (r : State) (t : Bool) → st.full ≡ false → x ≡ Some n → mv ≡ moved_to n.end st → y ≡ lay m (emit (g.ident s n ∷ word W.equals ∷ [])) (world o mv) → world o1 r ≡ lay m (g.bound_to s p f b) y → t ≡ not r.full → out t (world o1 r) ≡ lays false m (g.bound_name s p f b) (world o st)
+    name-next n mv y o1 r t u k l q1 q2 h =
+        let rest : Says Bool = emit (g.ident s n ∷ word W.equals ∷ []) then g.bound_to s p f b then give true in
         let z : out t (world o1 r) ≡ lays false m rest (world o mv) = told-then m _ _ (world o mv) y _ q1 (told-then m _ _ y (world o1 r) _ q2 (given-true m t o1 r h)) in
-        told-there false m rest o (moved_to e st) mv _ l z ∙ sym (lays-moved false m (g.bound_name s p f b) rest e o st u none (unfold g.bound_name need reader taken in (rw (← answered, k))))
+        told-there false m rest o (moved_to n.end st) mv _ l z ∙ sym (lays-moved false m (g.bound_name s p f b) rest n.end o st u none (unfold g.bound_name need reader taken in (rw (← answered, k))))
 
 pub ruleset name-laws = (name-stop, name-fails, name-next)
 
-pub binding-is : (m : ℕ) (s : List ℕ) (p : g.Level) (t f : Bool) (b k : ℕ) (v x : World) (z : Out Bool) → k ≡ if-then t W.comma-blank W.less → x ≡ lay m (emit (word k ∷ [])) v → z ≡ lays false m (g.bound_name s p f b) x → z ≡ lays false m (g.binding s p t f b) v
+pub binding-is : (m : Option Mode) (s : List ℕ) (p : g.Level) (t f : Bool) (b : ℕ) (k : Word) (v x : World) (z : Out Bool) → k ≡ if-then t W.comma-blank W.less → x ≡ lay m (emit (word k ∷ [])) v → z ≡ lays false m (g.bound_name s p f b) x → z ≡ lays false m (g.binding s p t f b) v
 unfolding g.binding
 binding-is m s p t f b k v x z h q r = rw (← h) (told-then m _ _ v x z q r)
 
@@ -610,7 +591,7 @@ is-not true e h = ap not h
 is-not false e h = ap not h
 
 -- ---- bindings, one after another: z is what all of them come to, which the invariant keeps; y is what `eat` answered
-module _ (m : ℕ) (s : List ℕ) (p : g.Level) (k : ℕ) (t f : Bool) (b : ℕ) (o : List ℕ) (st : State) (z : World) (kept : z ≡ lay m (g.bindings s p k t f b) (world o st)) where
+module _ (m : Option Mode) (s : List ℕ) (p : g.Level) (k : ℕ) (t f : Bool) (b : ℕ) (o : List ℕ) (st : State) (z : World) (kept : z ≡ lay m (g.bindings s p k t f b) (world o st)) where
   pub binds-error : (w : World) → Halted st → w ≡ lay m (say_if t W.more) (world o st) → w ≡ z
   binds-error w e q = arm-error m (g.bindings s p k t f b) (say_if t W.more) o st w e q (sym (go k)) ∙ sym kept
     where
@@ -654,7 +635,7 @@ module _ (m : ℕ) (s : List ℕ) (p : g.Level) (k : ℕ) (t f : Bool) (b : ℕ)
 pub ruleset binds-laws = (binds-error, binds-over, binds-end, binds-cut)
 
 -- ---- patterns, one after another
-module _ (m : ℕ) (s : List ℕ) (p : g.Level) (k : ℕ) (f : Bool) (b : ℕ) (o : List ℕ) (st : State) (z : World) (kept : z ≡ lay m (g.alternatives s p k f b) (world o st)) where
+module _ (m : Option Mode) (s : List ℕ) (p : g.Level) (k : ℕ) (f : Bool) (b : ℕ) (o : List ℕ) (st : State) (z : World) (kept : z ≡ lay m (g.alternatives s p k f b) (world o st)) where
   pub alts-error : (w : World) → Halted st → w ≡ lay m broken (world o st) → w ≡ z
   alts-error w e q = arm-error m (g.alternatives s p k f b) broken o st w e q (sym (go k)) ∙ sym kept
     where
@@ -689,16 +670,16 @@ module _ (m : ℕ) (s : List ℕ) (p : g.Level) (k : ℕ) (f : Bool) (b : ℕ) (
 pub ruleset alts-laws = (alts-error, alts-over, alts-end)
 
 -- ---- by a test
-pub choose_yes : (m : ℕ) (t : Bool) (a b : Says U) (v w : World) → t ≡ true → w ≡ lay m a v → w ≡ lay m (choose t a b) v
+pub choose_yes : (m : Option Mode) (t : Bool) (a b : Says U) (v w : World) → t ≡ true → w ≡ lay m a v → w ≡ lay m (choose t a b) v
 unfolding choose
 choose_yes m t a b v w h p = rw h p
 
-pub choose-nothing : (m : ℕ) (t : Bool) (a : Says U) (v : World) → t ≡ false → v ≡ lay m (choose t a (emit [])) v
+pub choose-nothing : (m : Option Mode) (t : Bool) (a : Says U) (v : World) → t ≡ false → v ≡ lay m (choose t a (emit [])) v
 unfolding choose
 choose-nothing m t a v h = rw h (sym (lay-nil m v))
 
 -- a type, with its `w`: y is what `eat` answered, x what is there before the type
-module _ (m : ℕ) (s : List ℕ) (p : g.Level) (f : Bool) (b : ℕ) (o : List ℕ) (st : State) (x w : World) (y : ℕ) (free : st.full ≡ false) (none : st.error ≡ 0) (eaten : y ≡ past 119 s st.place) (shown : w ≡ lay m (p.bare f b) x) where
+module _ (m : Option Mode) (s : List ℕ) (p : g.Level) (f : Bool) (b : ℕ) (o : List ℕ) (st : State) (x w : World) (y : ℕ) (free : st.full ≡ false) (none : st.error ≡ 0) (eaten : y ≡ past 119 s st.place) (shown : w ≡ lay m (p.bare f b) x) where
   pub type-bare : y ≡ st.place → x ≡ world o st → w ≡ lay m (g.type s p f b) (world o st)
   unfolding g.type choose
   type-bare h n = eat-no m s 119 _ o st w y free none eaten st h refl (shown ∙ ap (lay m (p.bare f b)) n)
@@ -708,7 +689,7 @@ module _ (m : ℕ) (s : List ℕ) (p : g.Level) (f : Bool) (b : ℕ) (o : List �
   type-splat mv h there q = eat-yes m s 119 _ o st w y free none eaten mv h there (arm-then m _ _ (world o mv) x w q shown)
 
 -- a reference: z is what `reference` answered
-module _ (m : ℕ) (s : List ℕ) (p : g.Level) (is_mut f : Bool) (b : ℕ) (v : World) (t : Bool) (o : List ℕ) (st : State) (told : out t (world o st) ≡ lays false m (g.reference s is_mut f b) v) where
+module _ (m : Option Mode) (s : List ℕ) (p : g.Level) (is_mut f : Bool) (b : ℕ) (v : World) (t : Bool) (o : List ℕ) (st : State) (told : out t (world o st) ≡ lays false m (g.reference s is_mut f b) v) where
   pub refer-more : (w : World) → t ≡ true → w ≡ lay m (g.type s p f b) (world o st) → w ≡ lay m (g.refer s p is_mut f b) v
   unfolding g.refer choose
   refer-more w h q = arm-bind false m _ _ v (out t (world o st)) w told (rw h q)
@@ -720,7 +701,7 @@ module _ (m : ℕ) (s : List ℕ) (p : g.Level) (is_mut f : Bool) (b : ℕ) (v :
 pub ruleset refer-laws = (refer-more, refer-over)
 
 -- what is bound: y is what `eat` answered
-module _ (m : ℕ) (s : List ℕ) (p : g.Level) (f : Bool) (b : ℕ) (o : List ℕ) (st : State) (w : World) (y : ℕ) (free : st.full ≡ false) (none : st.error ≡ 0) where
+module _ (m : Option Mode) (s : List ℕ) (p : g.Level) (f : Bool) (b : ℕ) (o : List ℕ) (st : State) (w : World) (y : ℕ) (free : st.full ≡ false) (none : st.error ≡ 0) where
   pub onto-const : (mv : State) → y ≡ past 75 s st.place → (y ≡ st.place → ⊥) → mv ≡ moved_to y st → w ≡ lay m (p.con false f b) (world o mv) → w ≡ lay m (g.bound_to s p f b) (world o st)
   unfolding g.bound_to choose
   onto-const mv eaten h l q = eat-yes m s 75 _ o st w y free none eaten mv h l q
@@ -729,16 +710,16 @@ module _ (m : ℕ) (s : List ℕ) (p : g.Level) (f : Bool) (b : ℕ) (o : List �
   unfolding g.bound_to choose
   onto-type eaten h q = eat-no m s 75 _ o st w y free none eaten st h refl q
 
-  pub result-arrow : y ≡ past 117 s st.place → y ≡ st.place → w ≡ lay m (g.arrow s p f b) (world o st) → w ≡ lay m (g.result s p f b) (world o st)
-  unfolding g.result choose
+  pub result-arrow : y ≡ past 117 s st.place → y ≡ st.place → w ≡ lay m (g.pointer s p W.arrow f b) (world o st) → w ≡ lay m (g.result s p f b) (world o st)
+  unfolding g.result g.arrow g.pointer choose
   result-arrow eaten h q = eat-no m s 117 _ o st w y free none eaten st h refl q
 
-pub result-unit : (m : ℕ) (s : List ℕ) (p : g.Level) (f : Bool) (b : ℕ) (o : List ℕ) (st : State) (y : ℕ) (mv : State) → st.full ≡ false → st.error ≡ 0 → y ≡ past 117 s st.place → (y ≡ st.place → ⊥) → mv ≡ moved_to y st → world o mv ≡ lay m (g.result s p f b) (world o st)
+pub result-unit : (m : Option Mode) (s : List ℕ) (p : g.Level) (f : Bool) (b : ℕ) (o : List ℕ) (st : State) (y : ℕ) (mv : State) → st.full ≡ false → st.error ≡ 0 → y ≡ past 117 s st.place → (y ≡ st.place → ⊥) → mv ≡ moved_to y st → world o mv ≡ lay m (g.result s p f b) (world o st)
 unfolding g.result choose
 result-unit m s p f b o st y mv free none eaten h l = eat-yes m s 117 _ o st (world o mv) y free none eaten mv h l (sym (lay-nil m (world o mv)))
 
-pub result-stop : (m : ℕ) (s : List ℕ) (p : g.Level) (f : Bool) (b : ℕ) (o : List ℕ) (st : State) (w : World) → Halted st → w ≡ lay m (g.arrow s p f b) (world o st) → w ≡ lay m (g.result s p f b) (world o st)
-unfolding g.result choose
+pub result-stop : (m : Option Mode) (s : List ℕ) (p : g.Level) (f : Bool) (b : ℕ) (o : List ℕ) (st : State) (w : World) → Halted st → w ≡ lay m (g.pointer s p W.arrow f b) (world o st) → w ≡ lay m (g.result s p f b) (world o st)
+unfolding g.result g.arrow g.pointer choose
 result-stop m s p f b o st w h q = eat-stop m s 117 _ o st w h q
 
 pub ruleset onto-laws = (onto-stop, onto-const, onto-type)
@@ -746,7 +727,7 @@ pub ruleset onto-laws = (onto-stop, onto-const, onto-type)
 pub ruleset ret-laws = (result-stop, result-unit, result-arrow)
 
 -- ---- the body of a constant in braces, by its tag
-module _ (m : ℕ) (s : List ℕ) (p : g.Level) (t : ℕ) (f : Bool) (b : ℕ) (v w : World) where
+module _ (m : Option Mode) (s : List ℕ) (p : g.Level) (t : ℕ) (f : Bool) (b : ℕ) (v w : World) where
   pub body-string : t ≡ 101 → w ≡ lay m (g.unsized_literal s) v → w ≡ lay m (g.body_by s p t f b) v
   unfolding g.body_by choose
   body-string h q = rw h q
@@ -766,7 +747,7 @@ module _ (m : ℕ) (s : List ℕ) (p : g.Level) (t : ℕ) (f : Bool) (b : ℕ) (
 pub ruleset body-laws = (body-string, body-array, body-tuple, body-ref)
 
 -- a function pointer behind its head: t is what `signature` answered
-module _ (m : ℕ) (s : List ℕ) (p : g.Level) (f : Bool) (b : ℕ) (v : World) (t : Bool) (o : List ℕ) (st : State) (told : out t (world o st) ≡ lays false m (g.sig_head s) v) where
+module _ (m : Option Mode) (s : List ℕ) (p : g.Level) (f : Bool) (b : ℕ) (v : World) (t : Bool) (o : List ℕ) (st : State) (told : out t (world o st) ≡ lays false m (g.sig_head s) v) where
   signature-more : (w : World) → t ≡ true → w ≡ lay m (g.parameters s p f b) (world o st) → w ≡ lay m (g.signature s p f b) v
   unfolding g.signature choose
   signature-more w h q = arm-bind false m _ _ v (out t (world o st)) w told (rw h q)
@@ -776,72 +757,72 @@ module _ (m : ℕ) (s : List ℕ) (p : g.Level) (f : Bool) (b : ℕ) (v : World)
   signature-over h = arm-bind false m _ _ v (out t (world o st)) (world o st) told (rw h (sym (lay-nil m (world o st))))
 
 -- ---- binders: x is what `opt_integer_62` answered, k what `held` answered
-module _ (m : ℕ) (s : List ℕ) (p : g.Level) (f : Bool) (b : ℕ) (o : List ℕ) (st mv : State) (x : Num) (answered : x ≡ optional62 71 s st.place) (none : st.error ≡ 0) where
-  pub function-fails : (w : World) → x ≡ NoNum → mv ≡ st → w ≡ lay m broken (world o mv) → w ≡ lay m (g.function s p f b) (world o st)
+module _ (m : Option Mode) (s : List ℕ) (p : g.Level) (f : Bool) (b : ℕ) (o : List ℕ) (st mv : State) (x : Option (ℕ × ℕ)) (answered : x ≡ optional62 71 s st.place) (none : st.error ≡ 0) where
+  pub function-fails : (w : World) → x ≡ None → mv ≡ st → w ≡ lay m broken (world o mv) → w ≡ lay m (g.function s p f b) (world o st)
   unfolding g.function
-  function-fails w h l q = num-fails m o st mv w (optional62 71 s) _ x none answered h l q
+  function-fails w h l q = read-fails m o st mv w (optional62 71 s) _ x none answered h l q
 
-  pub traits-fails : (w : World) → x ≡ NoNum → mv ≡ st → w ≡ lay m broken (world o mv) → w ≡ lay m (g.traits s p f b) (world o st)
+  pub traits-fails : (w : World) → x ≡ None → mv ≡ st → w ≡ lay m broken (world o mv) → w ≡ lay m (g.traits s p f b) (world o st)
   unfolding g.traits
-  traits-fails w h l q = num-fails m o st mv w (optional62 71 s) _ x none answered h l q
+  traits-fails w h l q = read-fails m o st mv w (optional62 71 s) _ x none answered h l q
 
-  pub function-over : (n q : ℕ) (y : World) (h : Bool) (o1 : List ℕ) (r : State) → st.full ≡ false → x ≡ Value n q → mv ≡ moved_to q st → y ≡ lay m (emit (g.binder b n)) (world o mv) → out h (world o1 r) ≡ lays false m (g.sig_head s) y → h ≡ false → world o1 r ≡ lay m (g.function s p f b) (world o st)
+  pub function-over : (n q : ℕ) (y : World) (h : Bool) (o1 : List ℕ) (r : State) → st.full ≡ false → x ≡ Some (n, q) → mv ≡ moved_to q st → y ≡ lay m (emit (g.binder b n)) (world o mv) → out h (world o1 r) ≡ lays false m (g.sig_head s) y → h ≡ false → world o1 r ≡ lay m (g.function s p f b) (world o st)
   unfolding g.function
-  function-over n q y h o1 r free known there bound told is = num-next m o st mv (world o1 r) (optional62 71 s) _ x n q free none answered known there (arm-then m _ _ (world o mv) y (world o1 r) bound (signature-over m s p f (g.held (b + n)) y h o1 r told is))
+  function-over n q y h o1 r free known there bound told is = read-next m o st mv (world o1 r) (optional62 71 s) _ x n q free none answered known there (arm-then m _ _ (world o mv) y (world o1 r) bound (signature-over m s p f (g.held (b + n)) y h o1 r told is))
 
-  module _ (n q k : ℕ) (y : World) (free : st.full ≡ false) (known : x ≡ Value n q) (there : mv ≡ moved_to q st) (counted : k ≡ g.held (b + n)) (bound : y ≡ lay m (emit (g.binder b n)) (world o mv)) where
+  module _ (n q k : ℕ) (y : World) (free : st.full ≡ false) (known : x ≡ Some (n, q)) (there : mv ≡ moved_to q st) (counted : k ≡ g.held (b + n)) (bound : y ≡ lay m (emit (g.binder b n)) (world o mv)) where
     function-next : (w : World) → w ≡ lay m (g.signature s p f k) y → w ≡ lay m (g.function s p f b) (world o st)
     unfolding g.function
-    function-next w r = num-next m o st mv w (optional62 71 s) _ x n q free none answered known there (arm-then m _ _ (world o mv) y w bound (rw counted at r))
+    function-next w r = read-next m o st mv w (optional62 71 s) _ x n q free none answered known there (arm-then m _ _ (world o mv) y w bound (rw counted at r))
 
     pub function-more : (w : World) (h : Bool) (o1 : List ℕ) (r : State) → out h (world o1 r) ≡ lays false m (g.sig_head s) y → h ≡ true → w ≡ lay m (g.parameters s p f k) (world o1 r) → w ≡ lay m (g.function s p f b) (world o st)
     function-more w h o1 r told is shown = function-next w (signature-more m s p f k y h o1 r told w is shown)
 
     pub traits-next : (c : ℕ) (o1 : List ℕ) (r : State) → out c (world o1 r) ≡ lays 0 m (g.list s p Trait f k) y → world o1 r ≡ lay m (g.traits s p f b) (world o st)
     unfolding g.traits
-    traits-next c o1 r l = num-next m o st mv (world o1 r) (optional62 71 s) _ x n q free none answered known there (arm-then m _ _ (world o mv) y (world o1 r) bound (arm-list m _ _ y (out c (world o1 r)) (world o1 r) (rw counted at l) (sym (lay-nil m (world o1 r)))))
+    traits-next c o1 r l = read-next m o st mv (world o1 r) (optional62 71 s) _ x n q free none answered known there (arm-then m _ _ (world o mv) y (world o1 r) bound (arm-list m _ _ y (out c (world o1 r)) (world o1 r) (rw counted at l) (sym (lay-nil m (world o1 r)))))
 
 pub ruleset func-laws = (function-fails, function-more, function-over)
 
 pub ruleset dyns-laws = (traits-stop, traits-fails, traits-next)
 
 -- ---- a reading and what follows it, in the members that start with one
-module _ (m : ℕ) (s : List ℕ) (p : g.Level) (f : Bool) (b : ℕ) (o : List ℕ) (st mv : State) (w : World) where
-  module _ (value : Bool) (x : Letter) (none : st.error ≡ 0) (answered : x ≡ letter_at s st.place) where
-    pub nest-fails : x ≡ NoLetter → mv ≡ st → w ≡ lay m broken (world o mv) → w ≡ lay m (g.nest s p value f b) (world o st)
+module _ (m : Option Mode) (s : List ℕ) (p : g.Level) (f : Bool) (b : ℕ) (o : List ℕ) (st mv : State) (w : World) where
+  module _ (value : Bool) (x : Option (Option ℕ × ℕ)) (none : st.error ≡ 0) (answered : x ≡ space_at s st.place) where
+    pub nest-fails : x ≡ None → mv ≡ st → w ≡ lay m broken (world o mv) → w ≡ lay m (g.nest s p value f b) (world o st)
     unfolding g.nest
-    nest-fails k l q = letter-fails m o st mv w s _ x none answered k l q
+    nest-fails k l q = read-fails m o st mv w (space_at s) _ x none answered k l q
 
-    pub nest-next : (ns q : ℕ) (y z : World) → st.full ≡ false → x ≡ Ns ns q → mv ≡ moved_to q st → y ≡ lay m (p.path value f b) (world o mv) → z ≡ lay m (on_error (word W.colons ∷ [])) y → w ≡ lay m (g.nested s ns) z → w ≡ lay m (g.nest s p value f b) (world o st)
+    pub nest-next : (ns : Option ℕ) (q : ℕ) (y z : World) → st.full ≡ false → x ≡ Some (ns, q) → mv ≡ moved_to q st → y ≡ lay m (p.path value f b) (world o mv) → z ≡ lay m (on_error (word W.colons ∷ [])) y → w ≡ lay m (g.nested s ns) z → w ≡ lay m (g.nest s p value f b) (world o st)
     unfolding g.nest
-    nest-next ns q y z u k l r1 r2 r3 = letter-next m o st mv w s _ x ns q u none answered k l (arm-then m _ _ (world o mv) y w r1 (arm-then m _ _ y z w r2 r3))
+    nest-next ns q y z u k l r1 r2 r3 = read-next m o st mv w (space_at s) _ x ns q u none answered k l (arm-then m _ _ (world o mv) y w r1 (arm-then m _ _ y z w r2 r3))
 
-  module _ (with : Bool) (x : Num) (none : st.error ≡ 0) (answered : x ≡ optional62 115 s st.place) where
-    pub imp-fails : x ≡ NoNum → mv ≡ st → w ≡ lay m broken (world o mv) → w ≡ lay m (g.imp s p with f b) (world o st)
+  module _ (with : Bool) (x : Option (ℕ × ℕ)) (none : st.error ≡ 0) (answered : x ≡ optional62 115 s st.place) where
+    pub imp-fails : x ≡ None → mv ≡ st → w ≡ lay m broken (world o mv) → w ≡ lay m (g.imp s p with f b) (world o st)
     unfolding g.imp
-    imp-fails k l q = num-fails m o st mv w (optional62 115 s) _ x none answered k l q
+    imp-fails k l q = read-fails m o st mv w (optional62 115 s) _ x none answered k l q
 
-    pub imp-next : (v q : ℕ) (y : World) → st.full ≡ false → x ≡ Value v q → mv ≡ moved_to q st → y ≡ lay 0 (p.path false false b) (world o mv) → w ≡ lay m (g.qself s p with f b) y → w ≡ lay m (g.imp s p with f b) (world o st)
+    pub imp-next : (v q : ℕ) (y : World) → st.full ≡ false → x ≡ Some (v, q) → mv ≡ moved_to q st → y ≡ lay None (p.path false false b) (world o mv) → w ≡ lay m (g.qself s p with f b) y → w ≡ lay m (g.imp s p with f b) (world o st)
     unfolding g.imp
-    imp-next v q y u k l r1 r2 = num-next m o st mv w (optional62 115 s) _ x v q u none answered k l (arm-mute-then m _ _ (world o mv) y w r1 r2)
+    imp-next v q y u k l r1 r2 = read-next m o st mv w (optional62 115 s) _ x v q u none answered k l (arm-mute-then m _ _ (world o mv) y w r1 r2)
 
-  module _ (kd : Kind) (x : Back) (none : st.error ≡ 0) (answered : x ≡ back_at s st.place) where
-    pub back-lost : x ≡ NoBack → mv ≡ st → w ≡ lay m broken (world o mv) → w ≡ lay m (g.back s p kd f b) (world o st)
+  module _ (kd : Kind) (x : Option (ℕ × ℕ)) (none : st.error ≡ 0) (answered : x ≡ back_at s st.place) where
+    pub back-lost : x ≡ None → mv ≡ st → w ≡ lay m broken (world o mv) → w ≡ lay m (g.back s p kd f b) (world o st)
     unfolding g.back
-    back-lost k l q = back-fails m o st mv w s _ x none answered k l q
+    back-lost k l q = read-fails m o st mv w (back_at s) _ x none answered k l q
 
-    pub back-got : (v q : ℕ) → st.full ≡ false → x ≡ Target v q → mv ≡ moved_to q st → w ≡ lay m (p.aim kd f b v) (world o mv) → w ≡ lay m (g.back s p kd f b) (world o st)
+    pub back-got : (v q : ℕ) → st.full ≡ false → x ≡ Some (v, q) → mv ≡ moved_to q st → w ≡ lay m (p.aim kd f b v) (world o mv) → w ≡ lay m (g.back s p kd f b) (world o st)
     unfolding g.back
-    back-got v q u k l r = back-next m o st mv w s _ x v q u none answered k l r
+    back-got v q u k l r = read-next m o st mv w (back_at s) _ x v q u none answered k l r
 
-  module _ (x : Named) (none : st.error ≡ 0) (answered : x ≡ named_at s st.place) where
-    pub field-fails : x ≡ NoNamed → mv ≡ st → w ≡ lay m broken (world o mv) → w ≡ lay m (g.field s p f b) (world o st)
+  module _ (x : Option (ℕ × Name)) (none : st.error ≡ 0) (answered : x ≡ named_at s st.place) where
+    pub field-fails : x ≡ None → mv ≡ st → w ≡ lay m broken (world o mv) → w ≡ lay m (g.field s p f b) (world o st)
     unfolding g.field
     field-fails k l q = named-fails m o st mv w s _ x none answered k l q
 
-    pub field_next : (d a c e q : ℕ) (y : World) → st.full ≡ false → x ≡ Called d a c e q → mv ≡ moved_to q st → y ≡ lay m (emit (g.ident s a c e q ∷ word W.field ∷ [])) (world o mv) → w ≡ lay m (p.con true f b) y → w ≡ lay m (g.field s p f b) (world o st)
+    pub field_next : (d : ℕ) (i : Name) (y : World) → st.full ≡ false → x ≡ Some (d, i) → mv ≡ moved_to i.end st → y ≡ lay m (emit (g.ident s i ∷ word W.field ∷ [])) (world o mv) → w ≡ lay m (p.con true f b) y → w ≡ lay m (g.field s p f b) (world o st)
     unfolding g.field
-    field_next d a c e q y n h l r1 r2 = named-next m o st mv w s _ x d a c e q n none answered h l (arm-then m _ _ (world o mv) y w r1 r2)
+    field_next d i y n h l r1 r2 = named-next m o st mv w s _ x d i n none answered h l (arm-then m _ _ (world o mv) y w r1 r2)
 
 pub ruleset nest-laws = (nest-fails, nest-next)
 
@@ -852,18 +833,120 @@ pub ruleset back-laws = (back-lost, back-got)
 pub ruleset field_laws = (field-stop, field-fails, field_next)
 
 -- a path with generic arguments: k is the word that opens them
-pub generic-is : (m : ℕ) (s : List ℕ) (p : g.Level) (value f : Bool) (b k : ℕ) (v x y : World) (z : Out ℕ) (w : World) → x ≡ lay m (p.path value f b) v → k ≡ if-then value W.value-less W.less → y ≡ lay m (emit (word k ∷ [])) x → z ≡ lays 0 m (g.list s p Arg f b) y → w ≡ lay m (emit (word W.more ∷ [])) z.world → w ≡ lay m (g.generic s p value f b) v
+pub generic-is : (m : Option Mode) (s : List ℕ) (p : g.Level) (value f : Bool) (b : ℕ) (k : Word) (v x y : World) (z : Out ℕ) (w : World) → x ≡ lay m (p.path value f b) v → k ≡ if-then value W.value-less W.less → y ≡ lay m (emit (word k ∷ [])) x → z ≡ lays 0 m (g.list s p Arg f b) y → w ≡ lay m (emit (word W.more ∷ [])) z.world → w ≡ lay m (g.generic s p value f b) v
 unfolding g.generic
 generic-is m s p value f b k v x y z w r1 h r2 r3 r4 = arm-then m _ _ v x w r1 (arm-then m _ _ x y w (rw h at r2) (arm-list m _ _ y z w r3 r4))
 
--- the separator of a list, and the kind of a target, by a test
-pub sep-by : (k j : Item) (r : ℕ) → k ≡ j → r ≡ g.sep_of j → r ≡ g.sep_of k
-sep-by k j r h q = rw h q
+-- one of two, by a test
+pub choose-yes : {A : Type 0} (t : Bool) (a b : A) → t ≡ true → a ≡ if-then t a b
+choose-yes t a b h = rw h
 
-pub kind-by : (t : Bool) (a b r : Kind) → t ≡ true → r ≡ a → r ≡ if-then t a b
-kind-by t a b r h q = rw h q
+pub choose-no : {A : Type 0} (t : Bool) (a b : A) → t ≡ false → b ≡ if-then t a b
+choose-no t a b h = rw h
 
-pub kind-else : (t : Bool) (a b r : Kind) → t ≡ false → r ≡ b → r ≡ if-then t a b
-kind-else t a b r h q = rw h q
+pub ruleset choose_laws = (choose-yes, choose-no, rules)
 
-pub ruleset kind-laws = (sep-by, kind-by, kind-else, rules)
+-- ---- what each member of the cycle is shown by
+pub ruleset adt_rules = (arm-then, tests, rules)
+
+pub ruleset aim_rules = (aim-laws, tests, rules)
+
+pub ruleset alt_rules = (alts-laws, tests, rules)
+
+pub ruleset arg_rules = (arg_laws, tests, rules)
+
+pub ruleset arr_rules = (arm-then, tests, rules)
+
+pub ruleset bar_rules = (bare-laws, tests, rules)
+
+pub ruleset bd_rules = (binding-is, tests, rules)
+
+pub ruleset bk_rules = (back-laws, tests, rules)
+
+pub ruleset bn_rules = (ident-within, name-laws, tests, rules)
+
+pub ruleset bod_rules = (body-laws, tests, rules)
+
+pub ruleset bor_rules = (refer-laws, tests, rules)
+
+pub ruleset brc_rules = (arm-then, tests, rules)
+
+pub ruleset bs_rules = (binds-laws, tests, rules)
+
+pub ruleset bt_rules = (onto-laws, tests, rules)
+
+pub ruleset con_rules = (con-laws, tests, rules)
+
+pub ruleset ct_rules = (con-adt, con-back, con-bool, con-char, con-placeholder, tests, rules)
+
+pub ruleset dt_rules = (arm-bind, trait-stop, tests, rules)
+
+pub ruleset fl_rules = (arm-list, arm-then, tests, rules)
+
+pub ruleset fld_rules = (field_laws, named-within, tests, rules)
+
+pub ruleset fnp_rules = (func-laws, tests, rules)
+
+pub ruleset gns_rules = (generic-is, tests, rules)
+
+pub ruleset imp_rules = (imp-laws, tests, rules)
+
+pub ruleset lit_rules = (lit-laws, tests, rules)
+
+pub ruleset ls_rules = (list-end, list-error, list_full, list_over, tests, rules)
+
+pub ruleset nam_rules = (named-laws, tests, rules)
+
+pub ruleset nst_rules = (nest-laws, tests, rules)
+
+pub ruleset oa_rules = (oaim-laws, tests, rules)
+
+pub ruleset ob_rules = (open-laws, tests, rules)
+
+pub ruleset obj_rules = (arm-then, tests, rules)
+
+pub ruleset og_rules = (open-laws, tests, rules)
+
+pub ruleset one_rules = (one_laws, tests, rules)
+
+pub ruleset op_rules = (open-laws, tests, rules)
+
+pub ruleset ors_rules = (ors-laws, tests, rules)
+
+pub ruleset par_rules = (arm-list, arm-then, tests, rules)
+
+pub ruleset pat_rules = (pat-laws, tests, rules)
+
+pub ruleset path_rules = (path-laws, tests, rules)
+
+pub ruleset pt_rules = (path-back, path-crate, path-generic, path-impl, path-nest, path-other, path-self, tests, rules)
+
+pub ruleset ptr_rules = (arm-then, tests, rules)
+
+pub ruleset ret_rules = (ret-laws, tests, rules)
+
+pub ruleset rk_rules = (arm-then, tests, rules)
+
+pub ruleset rng_rules = (arm-then, tests, rules)
+
+pub ruleset see_rules = (visit-laws, tests, rules)
+
+pub ruleset seq_rules = (arm-list, arm-then, tests, rules)
+
+pub ruleset slf_rules = (arm-then, tests, rules)
+
+pub ruleset sub_rules = (arm-then, tests, rules)
+
+pub ruleset sz_rules = (arm-then, choose-nothing, choose_yes, tests, rules)
+
+pub ruleset trs_rules = (dyns-laws, tests, rules)
+
+pub ruleset trt_rules = (arm-then, choose-nothing, choose_yes, tests, rules)
+
+pub ruleset tup_rules = (arm-bind, arm-then, tests, rules)
+
+pub ruleset ty_rules = (type-stop, tests, rules)
+
+pub ruleset tys_rules = (type-array, type-back, type-const-ptr, type-function, type-mut, type-mut-ptr, type-named, type-object, type-ref, type-slice, type-sub, type-tuple, tests, rules)
+
+pub ruleset var_rules = (variant-laws, tests, rules)

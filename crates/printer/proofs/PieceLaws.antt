@@ -1,4 +1,6 @@
 -- From a piece laid into the free rest of the buffer to what is done to buffer and state. Assumes nothing.
+use Rattle.std.specs.Prelude.{Option, Some, None, Ok, Err}
+use Rattle.pieces.specs.declared.mode.Mode.{Mode}
 use Prim.Native.Nat.{ℕ, zero, suc, ◌+◌, ◌-◌, ◌^◌, ◌≤◌, ◌<◌, min}
 use mathlib.Core.Path.{◌≡◌, refl, ap, sym, ◌∙◌}
 use mathlib.Core.Bool.{Bool, true, false}
@@ -9,30 +11,29 @@ use lib.Dec.{leb}
 use lib.ListN.{length, take, drop, length-drop, drop_of_length-le}
 use lib.Seq.{take_all, take-nil, drop-nil}
 use Rattle.parser.specs.Digits.{if-then}
-use Rattle.pieces.specs.Laid.{laid, room, Wrote}
-use Rattle.pieces.specs.declared.put.Put.{Put}
-use Rattle.pieces.specs.declared.put.Put.TheVariants.{Done, NoRoom}
+use Rattle.pieces.specs.Laid.{Put, no_room, laid, room, Wrote}
+use Rattle.pieces.specs.declared.put.NoRoom.{NoRoom}
 use Rattle.pieces.specs.Piece.{Piece, spell, spelled, render, is_short}
 use Rattle.printer.specs.Lay.{State}
 use Rattle.printer.specs.Over.{over}
 use Rattle.printer.specs.Says.{emit}
-use Rattle.printer.specs.Lay.{world, lay, fitted, full_state, sum_of, settled_by}
+use Rattle.printer.specs.Lay.{World, world, lay, fitted, full_state, sum_of, settled_by}
 use Rattle.printer.proofs.LayLaws.{lay-full, lay-off, lay-emit, written}
 
 -- ---- the answer of a writer
-done : (n m : ℕ) {k : ℕ} → Done k ≡ room n m → (k ≡ n) × (n ≤ m)
+done : (n m : ℕ) {k : ℕ} → ◌≡◌ {A = Put} (Ok k) (room n m) → (k ≡ n) × (n ≤ m)
 unfolding room
 done n m {k} q = go (leb n m) refl q
   where
-    go : (t : Bool) → leb n m ≡ t → Done k ≡ if-then t (Done n) NoRoom → (k ≡ n) × (n ≤ m)
+    go : (t : Bool) → leb n m ≡ t → ◌≡◌ {A = Put} (Ok k) (if-then t (Ok n) (Err no_room)) → (k ≡ n) × (n ≤ m)
     go true h p = (cc, leb-true n m h)
     go false h p = absurd (let z : ◌≡◌ {A = ℕ} 0 1 = cc in omega arith)
 
-short : (n m : ℕ) → NoRoom ≡ room n m → m < n
+short : (n m : ℕ) {e : NoRoom} → ◌≡◌ {A = Put} (Err e) (room n m) → m < n
 unfolding room
-short n m q = go (leb n m) refl q
+short n m {e} q = go (leb n m) refl q
   where
-    go : (t : Bool) → leb n m ≡ t → NoRoom ≡ if-then t (Done n) NoRoom → m < n
+    go : (t : Bool) → leb n m ≡ t → ◌≡◌ {A = Put} (Err e) (if-then t (Ok n) (Err no_room)) → m < n
     go true h p = absurd (let z : ◌≡◌ {A = ℕ} 0 1 = cc in omega arith)
     go false h p = leb-false n m h
 
@@ -58,10 +59,10 @@ drop-least (y ∷ o) zero = let e : min 0 (suc (length o)) ≡ 0 = omega arith i
 drop-least (y ∷ o) (suc n) = let e : min (suc n) (suc (length o)) ≡ suc (min n (length o)) = omega arith in rw e (drop-least o n)
 
 -- the free rest of a buffer as it is lent, and the buffer when it is back
-abbrev rest : List ℕ → ℕ → List ℕ
+abbrev pub rest : List ℕ → ℕ → List ℕ
 rest o w = take (length o - w) (drop w o)
 
-abbrev back : List ℕ → ℕ → List ℕ → List ℕ
+abbrev pub back : List ℕ → ℕ → List ℕ → List ℕ
 back o w f = take w o ++ (f ++ drop (length o - w) (drop w o))
 
 -- ---- a piece, from the facts as a function's places have them: w is where the free rest starts, p what the writer answered
@@ -83,7 +84,7 @@ module _ (o : List ℕ) (st : State) (w : ℕ) (starts : w ≡ min st.written (l
         ∙ (ap (λ (l : List ℕ). l ++ laid t (drop st.written o)) (ap (λ (k : ℕ). take k o) starts ∙ take-least o st.written)
         ∙ sym (over-split o st.written t)))
 
-    fits : (n : ℕ) → p ≡ Done n → (n ≡ length t) × (length t ≤ length o - st.written)
+    fits : (n : ℕ) → p ≡ Ok n → (n ≡ length t) × (length t ≤ length o - st.written)
     fits n said =
         let k = done (length t) (length (rest o w)) (sym said ∙ wrote.said) in
         (k.0, omega (arith, size))
@@ -92,28 +93,27 @@ module _ (o : List ℕ) (st : State) (w : ℕ) (starts : w ≡ min st.written (l
     sum_fits h k = go p refl
       where
         go : (q : Put) → p ≡ q → sum_of q st < 2 ^ 64
-        go (Done n) said = let q = fits n said in omega arith
-        go NoRoom said = omega arith
+        go (Ok n) said = let q = fits n said in omega arith
+        go (Err e) said = omega arith
 
-    pub piece-laid : (m : ℕ) (ps : List Piece) (r : State) → st.full ≡ false → r ≡ settled_by p st → render m ps ≡ t → world (back o w f) r ≡ lay m (emit ps) (world o st)
+    pub piece-laid : (m : Option Mode) (ps : List Piece) (r : State) → st.full ≡ false → r ≡ settled_by p st → render m ps ≡ t → world (back o w f) r ≡ lay m (emit ps) (world o st)
     piece-laid m ps r free h e =
         ap (λ (x : State). world (back o w f) x) (h ∙ go p refl)
         ∙ (ap (λ (b : List ℕ). world b (written o st t).st) back_is
         ∙ sym (lay-emit m ps o st free ∙ ap (written o st) e))
       where
         go : (q : Put) → p ≡ q → settled_by q st ≡ fitted (leb (length t) (length o - st.written)) (record { place = st.place; error = st.error; damaged = st.damaged; written = st.written + length t; full = false }) full_state
-        go (Done n) said = let q = fits n said in rw (le-leb (length t) (length o - st.written) q.1, ← q.0, free)
-        go NoRoom said = let k = short (length t) (length (rest o w)) (sym said ∙ wrote.said) in rw (lt-leb (length t) (length o - st.written) (omega (arith, size)))
+        go (Ok n) said = let q = fits n said in rw (le-leb (length t) (length o - st.written) q.1, ← q.0, free)
+        go (Err e) said = let k = short (length t) (length (rest o w)) (sym said ∙ wrote.said) in rw (lt-leb (length t) (length o - st.written) (omega (arith, size)))
 
 -- ---- the text of one piece in a mode that prints
-pub one_piece : (m : ℕ) (p : Piece) → (m ≡ 0 → ⊥) → (t : List ℕ) → spell (is_short (m - 1)) p ≡ t → render m (p ∷ []) ≡ t
+pub one_piece : (m : Mode) (p : Piece) (t : List ℕ) → spell (is_short m) p ≡ t → render (Some m) (p ∷ []) ≡ t
 unfolding render spelled
-one_piece zero p h t e = absurd (h refl)
-one_piece (suc m) p h t e = let k : suc m - 1 ≡ m = omega arith in append-nil (spell (is_short m) p) ∙ (rw k at e)
+one_piece m p t e = append-nil (spell (is_short m) p) ∙ e
 
 -- with nothing printed, or the buffer full, nothing is done
-pub quiet-full : (m : ℕ) (ps : List Piece) (o : List ℕ) (st : State) → st.full ≡ true → world o st ≡ lay m (emit ps) (world o st)
+pub quiet-full : (m : Option Mode) (ps : List Piece) (o : List ℕ) (st : State) → st.full ≡ true → world o st ≡ lay m (emit ps) (world o st)
 quiet-full m ps o st h = sym (lay-full m (emit ps) (world o st) h)
 
-pub quiet-off : (m : ℕ) (ps : List Piece) (o : List ℕ) (st : State) → m ≡ 0 → world o st ≡ lay m (emit ps) (world o st)
-quiet-off m ps o st h = sym (lay-off m ps (world o st) h)
+pub quiet-off : (m : Option Mode) (ps : List Piece) (w : World) → m ≡ None → w ≡ lay m (emit ps) w
+quiet-off m ps w h = sym (lay-off m ps w h)

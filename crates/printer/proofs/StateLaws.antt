@@ -1,97 +1,80 @@
--- The code's four numbers and the state that they are. Assumes nothing.
-use Prim.Native.Nat.{ℕ, zero, suc, ◌+◌, ◌<◌, ◌^◌}
-use mathlib.Core.Path.{◌≡◌, refl, ◌∙◌}
-use mathlib.Core.Bool.{true, false, or-false, or-true}
-use mathlib.Core.List.{List, [], ◌∷◌}
+-- The code's state and the state that it is, and what the tests of the code say of it. Assumes nothing.
+use Rattle.std.specs.Prelude.{Option, Some, None, Ok, Err, is_some, not}
+use Prim.Native.Nat.{ℕ, ◌+◌, ◌<◌, ◌^◌}
+use mathlib.Core.Path.{◌≡◌, refl, sym, ap, ◌∙◌}
+use mathlib.Core.Bool.{Bool, true, false}
 use native.Mathlib.Omega.{arith}
 use borrow.Author.Rules.{rules}
-use borrow.Author.Tests.{ne_eqb}
-use lib.Dec.{eqb}
-use lib.ListN.{length, get_or, set}
-use Rattle.printer.specs.Lay.{State, state_of, Going, full_state, moved_to, hurt_at, failed_at, advanced_by, sum_of, settled_by, back_to, is_error}
-use Rattle.pieces.specs.declared.put.Put.{Put}
-use Rattle.pieces.specs.declared.put.Put.TheVariants.{Done, NoRoom}
+use Rattle.parser.specs.Digits.{if-then}
+use Rattle.pieces.specs.Laid.{Put}
+use Rattle.pieces.specs.declared.put.NoRoom.{NoRoom}
+use Rattle.pieces.specs.declared.mode.Mode.{Mode}
+use Rattle.printer.specs.declared.state.State as Code
+use Rattle.printer.specs.declared.state.Status.{Status}
+use Rattle.printer.specs.declared.state.Status.TheVariants.{Going as IsGoing, Invalid, RecursedTooDeep, Full}
+use Rattle.printer.specs.Lay.{State, state_of, filled, code_of, halts, Going, full_state, moved_to, advanced_by, sum_of, settled_by}
 
--- ---- a number set
-pub moved-list : (p : ℕ) (l : List ℕ) → length l ≡ 4 → state_of (set l 0 p) ≡ moved_to p (state_of l)
-moved-list p [] n = absurd (omega arith)
-moved-list p (a ∷ l) n = refl
-
-pub failed-list : (e : ℕ) (l : List ℕ) → length l ≡ 4 → ((state_of l).full ≡ false) × (e < 3) → state_of (set l 1 e) ≡ failed_at e (state_of l)
-failed-list e [] n h = absurd (omega arith)
-failed-list e (a ∷ []) n h = absurd (omega arith)
-failed-list e (a ∷ b ∷ l) n h = let k : eqb e 3 ≡ false = ne_eqb e 3 (λ q. absurd (omega (arith, q, h.1))) in rw (k, h.0) refl
-
-pub full-list : (l : List ℕ) → length l ≡ 4 → state_of (set (set (set (set l 0 0) 1 3) 2 0) 3 0) ≡ full_state
-full-list [] n = absurd (omega arith)
-full-list (a ∷ []) n = absurd (omega arith)
-full-list (a ∷ b ∷ []) n = absurd (omega arith)
-full-list (a ∷ b ∷ c ∷ []) n = absurd (omega arith)
-full-list (a ∷ b ∷ c ∷ d ∷ l) n = refl
-
-pub advanced-list : (k w : ℕ) (l : List ℕ) → length l ≡ 4 → w ≡ get_or l 3 0 → state_of (set l 3 (w + k)) ≡ advanced_by k (state_of l)
-advanced-list k w [] n h = absurd (omega arith)
-advanced-list k w (a ∷ []) n h = absurd (omega arith)
-advanced-list k w (a ∷ b ∷ []) n h = absurd (omega arith)
-advanced-list k w (a ∷ b ∷ c ∷ []) n h = absurd (omega arith)
-advanced-list k w (a ∷ b ∷ c ∷ d ∷ l) n h = rw h refl
-
-pub hurt-list : (p : ℕ) (l : List ℕ) → length l ≡ 4 → state_of (set (set (set l 0 p) 1 0) 2 1) ≡ hurt_at p (state_of l)
-hurt-list p [] n = absurd (omega arith)
-hurt-list p (a ∷ []) n = absurd (omega arith)
-hurt-list p (a ∷ b ∷ []) n = absurd (omega arith)
-hurt-list p (a ∷ b ∷ c ∷ l) n = refl
-
-pub ruleset state-laws = (moved-list, failed-list, full-list, advanced-list, hurt-list, rules)
+clash : {A : Type 0} → true ≡ false → A
+clash h = let z : ◌≡◌ {A = ℕ} 1 0 = ap (λ (t : Bool). if-then t 1 0) h in absurd (omega arith)
 
 -- ---- after a piece
-pub sum-of : (l : List ℕ) (p : Put) (n : ℕ) → sum_of p (state_of l) < 2 ^ 64 → p ≡ Done n → get_or l 3 0 + n < 2 ^ 64
-sum-of l p n h k = rw k at h
+pub sum-of : (s : State) (p : Put) (n : ℕ) → sum_of p s < 2 ^ 64 → p ≡ Ok n → s.written + n < 2 ^ 64
+sum-of s p n h k = rw k at h
 
-pub settled-done : (s r : State) (p : Put) (n : ℕ) → p ≡ Done n → r ≡ advanced_by n s → r ≡ settled_by p s
+pub settled-done : (s r : State) (p : Put) (n : ℕ) → p ≡ Ok n → r ≡ advanced_by n s → r ≡ settled_by p s
 settled-done s r p n k h = rw k h
 
-pub settled-full : (s r : State) (p : Put) → p ≡ NoRoom → r ≡ full_state → r ≡ settled_by p s
-settled-full s r p k h = rw k h
+pub settled-full : (s r : State) (p : Put) (e : NoRoom) → p ≡ Err e → r ≡ full_state → r ≡ settled_by p s
+settled-full s r p e k h = rw k h
 
-pub ruleset settle-laws = (sum-of, settled-done, settled-full, rules)
+pub ruleset settle_laws = (sum-of, settled-done, settled-full, rules)
 
--- ---- behind a target
-is-error : (e : ℕ) → (e ≡ 0 → ⊥) → is_error e ≡ true
-is-error zero h = absurd (h refl)
-is-error (suc e) h = refl
+-- ---- what the tests of the code say of a status y: b is what `is_full` or `stopped` answered
+module _ (y : Status) {b : Bool} where
+  pub full-here : b ≡ filled y → b ≡ true → filled y ≡ true
+  full-here h k = sym h ∙ k
 
-module _ (p : ℕ) (l : List ℕ) where
-  pub back_full : get_or l 1 0 ≡ 3 → state_of l ≡ back_to p (state_of l)
-  back_full h = rw h
+  pub room-else : b ≡ filled y → b ≡ false → filled y ≡ false
+  room-else h k = sym h ∙ k
 
-  pub back-good : (r : State) → get_or l 1 0 ≡ 0 → r ≡ moved_to p (state_of l) → r ≡ back_to p (state_of l)
-  back-good r h k = k ∙ rw (h, or-false)
+  pub full-not : b ≡ filled y → not b ≡ not (filled y)
+  full-not h = ap not h
 
-  pub back-damaged : (r : State) → (get_or l 1 0 ≡ 3 → ⊥) → (get_or l 1 0 ≡ 0 → ⊥) → r ≡ hurt_at p (state_of l) → r ≡ back_to p (state_of l)
-  back-damaged r k z h = h ∙ rw (ne_eqb (get_or l 1 0) 3 k, is-error (get_or l 1 0) z, or-true)
+  pub room-here : b ≡ halts y → b ≡ false → filled y ≡ false
+  room-here h k = go y (sym h ∙ k)
+    where
+      go : (z : Status) → halts z ≡ false → filled z ≡ false
+      go IsGoing q = refl
+      go Invalid q = clash q
+      go RecursedTooDeep q = clash q
+      go Full q = clash q
 
-pub ruleset back-laws = (back_full, back-good, back-damaged, rules)
+  pub none_here : b ≡ halts y → b ≡ false → code_of y ≡ 0
+  none_here h k = go y (sym h ∙ k)
+    where
+      go : (z : Status) → halts z ≡ false → code_of z ≡ 0
+      go IsGoing q = refl
+      go Invalid q = clash q
+      go RecursedTooDeep q = clash q
+      go Full q = clash q
 
--- ---- what the code's test of the second number says of the state
-module _ (l : List ℕ) where
-  pub room-here : get_or l 1 0 ≡ 0 → (state_of l).full ≡ false
-  room-here h = rw h
+pub error-else : (y : Status) {b c : Bool} → b ≡ filled y → b ≡ false → c ≡ halts y → c ≡ true → code_of y ≡ 0 → ⊥
+error-else y f nf h k = go y (sym f ∙ nf) (sym h ∙ k)
+  where
+    go : (z : Status) → filled z ≡ false → halts z ≡ true → code_of z ≡ 0 → ⊥
+    go IsGoing q r e = clash (sym r)
+    go Invalid q r e = absurd (omega (arith, e))
+    go RecursedTooDeep q r e = absurd (omega (arith, e))
+    go Full q r e = clash q
 
-  pub none_here : get_or l 1 0 ≡ 0 → (state_of l).error ≡ 0
-  none_here h = rw h
+pub going-here : (c : Code.State) {b : Bool} → b ≡ halts c.status → b ≡ false → Going (state_of c)
+going-here c h k = record { room = room-here c.status h k; none = none_here c.status h k }
 
-  pub full-here : get_or l 1 0 ≡ 3 → (state_of l).full ≡ true
-  full-here h = rw h
+pub going-room : (c : Code.State) → Going (state_of c) → filled c.status ≡ false
+going-room c g = g.room
 
-  pub room-else : (get_or l 1 0 ≡ 3 → ⊥) → (state_of l).full ≡ false
-  room-else h = ne_eqb (get_or l 1 0) 3 h
-
-  pub error-else : (get_or l 1 0 ≡ 3 → ⊥) → (get_or l 1 0 ≡ 0 → ⊥) → (state_of l).error ≡ 0 → ⊥
-  error-else h k e = k (rw (ne_eqb (get_or l 1 0) 3 h) at e)
-
-  pub going-here : get_or l 1 0 ≡ 0 → Going (state_of l)
-  going-here h = record { room = room-here h; none = none_here h }
+pub going-none : (c : Code.State) → Going (state_of c) → code_of c.status ≡ 0
+going-none c g = g.none
 
 pub going-moved : (p : ℕ) (s r : State) → r ≡ moved_to p s → Going s → Going r
 going-moved p s r h q = rw h (record { room = q.room; none = q.none })
@@ -100,7 +83,21 @@ going-moved p s r h q = rw h (record { room = q.room; none = q.none })
 pub record Halted (s : State) : Type 0 where
   pub no : s.full ≡ false → s.error ≡ 0 → ⊥
 
-pub halted-here : (l : List ℕ) → (get_or l 1 0 ≡ 0 → ⊥) → Halted (state_of l)
-halted-here l h = record { no = λ f e. h (rw f at e) }
+pub halted-here : (c : Code.State) {b : Bool} → b ≡ halts c.status → b ≡ true → Halted (state_of c)
+halted-here c h k = record { no = λ f e. go c.status (sym h ∙ k) f e }
+  where
+    go : (z : Status) → halts z ≡ true → filled z ≡ false → code_of z ≡ 0 → ⊥
+    go IsGoing q f e = clash (sym q)
+    go Invalid q f e = absurd (omega (arith, e))
+    go RecursedTooDeep q f e = absurd (omega (arith, e))
+    go Full q f e = clash f
 
-pub ruleset tests = (room-here, none_here, full-here, room-else, error-else, going-here, going-moved, halted-here)
+-- ---- whether there is a mode: b is what `is_none` answered
+pub off-here : (m : Option Mode) {b : Bool} → is_some m ≡ not b → b ≡ true → m ≡ None
+off-here None h k = refl
+off-here (Some m) h k = clash (rw k at h)
+
+pub on-here : (m : Option Mode) {b : Bool} → is_some m ≡ not b → b ≡ false → m ≡ None → ⊥
+on-here m h k e = clash (sym (rw (e, k) at h))
+
+pub ruleset tests = (full-not, room-here, none_here, full-here, room-else, error-else, going-here, going-moved, halted-here, going-room, going-none, off-here, on-here)

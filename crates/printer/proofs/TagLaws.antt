@@ -1,4 +1,6 @@
 -- By the tag that stands at the place: x is what `look` answered. Assumes nothing.
+use Rattle.std.specs.Prelude.{Option, Some, None}
+use Rattle.pieces.specs.declared.mode.Mode.{Mode}
 use Prim.Native.Nat.{ℕ, zero, suc, ◌+◌, ◌≤◌, ◌<◌}
 use mathlib.Core.Path.{◌≡◌, refl, ap, sym, ◌∙◌}
 use mathlib.Core.Bool.{Bool, true, false}
@@ -8,9 +10,7 @@ use borrow.Author.Tests.{eq-eqb, ltb-true, ltb-false}
 use lib.Dec.{eqb, ltb}
 use lib.ListN.{length, get_or, drop, get_or-eq_default}
 use Rattle.parser.specs.Digits.{if-then}
-use Rattle.parser.specs.Bytes.{first_byte, byte_at}
-use Rattle.parser.specs.declared.bytes.Byte.{Byte}
-use Rattle.parser.specs.declared.bytes.Byte.TheVariants.{Read, Invalid as NoByte}
+use Rattle.parser.specs.Bytes.{read, first_byte, byte_at}
 use Rattle.pieces.specs.Basic.{is_basic}
 use Rattle.printer.specs.declared.read.Tag.{Tag}
 use Rattle.printer.specs.Says.{U, Res, Says, broken, breaks, reader, refused, Tags, pick, invalid}
@@ -23,24 +23,24 @@ pub true-false : true ≡ false → ⊥
 true-false h = let z : ◌≡◌ {A = ℕ} 1 0 = ap (λ (t : Bool). if-then t 1 0) h in absurd (omega arith)
 
 -- ---- the byte at a place
-first-in : (s : List ℕ) (i j : ℕ) → i < length s → first_byte (drop i s) j ≡ Read (get_or s i 0) (j + 1)
+first-in : (s : List ℕ) (i j : ℕ) → i < length s → first_byte (drop i s) j ≡ read (get_or s i 0) (j + 1)
 unfolding first_byte
 first-in [] i j h = absurd (omega arith)
 first-in (c ∷ s) zero j h = refl
 first-in (c ∷ s) (suc i) j h = first-in s i j (omega arith)
 
-first_out : (s : List ℕ) (i j : ℕ) → length s ≤ i → first_byte (drop i s) j ≡ NoByte
+first_out : (s : List ℕ) (i j : ℕ) → length s ≤ i → first_byte (drop i s) j ≡ None
 unfolding first_byte
 first_out [] zero j h = refl
 first_out [] (suc i) j h = refl
 first_out (c ∷ s) zero j h = absurd (omega arith)
 first_out (c ∷ s) (suc i) j h = first_out s i j (omega arith)
 
-pub byte-in : (s : List ℕ) (i : ℕ) → i < length s → byte_at s i ≡ Read (get_or s i 0) (i + 1)
+pub byte-in : (s : List ℕ) (i : ℕ) → i < length s → byte_at s i ≡ read (get_or s i 0) (i + 1)
 unfolding byte_at
 byte-in s i h = first-in s i i h
 
-pub byte-out : (s : List ℕ) (i : ℕ) → length s ≤ i → byte_at s i ≡ NoByte
+pub byte-out : (s : List ℕ) (i : ℕ) → length s ≤ i → byte_at s i ≡ None
 unfolding byte_at
 byte-out s i h = first_out s i i h
 
@@ -50,20 +50,20 @@ module _ (s : List ℕ) (i : ℕ) (x : Tag) (answered : x ≡ tag_at s i) where
   unfolding tag_at
   at-end h = ap (λ (t : Tag). t.byte) answered ∙ get_or-eq_default s 0 {n = i} (ltb-false i (length s) h)
 
-  inside : ltb i (length s) ≡ true → byte_at s i ≡ Read x.byte x.behind
+  inside : ltb i (length s) ≡ true → byte_at s i ≡ read x.byte x.behind
   unfolding tag_at
   inside h =
       let k : (tag_at s i).behind ≡ i + 1 = rw h in
-      byte-in s i (ltb-true i (length s) h) ∙ (ap (λ (j : ℕ). Read (get_or s i 0) j) (sym k) ∙ ap (λ (t : Tag). Read t.byte t.behind) (sym answered))
+      byte-in s i (ltb-true i (length s) h) ∙ (ap (λ (j : ℕ). read (get_or s i 0) j) (sym k) ∙ ap (λ (t : Tag). read t.byte t.behind) (sym answered))
 
-  outside : ltb i (length s) ≡ false → byte_at s i ≡ NoByte
+  outside : ltb i (length s) ≡ false → byte_at s i ≡ None
   outside h = byte-out s i (ltb-false i (length s) h)
 
-  pub there : (k : ℕ) → x.byte ≡ k → eqb k 0 ≡ false → byte_at s i ≡ Read k x.behind
+  pub there : (k : ℕ) → x.byte ≡ k → eqb k 0 ≡ false → byte_at s i ≡ read k x.behind
   there k h z = go (ltb i (length s)) refl
     where
-      go : (t : Bool) → ltb i (length s) ≡ t → byte_at s i ≡ Read k x.behind
-      go true e = inside e ∙ ap (λ (c : ℕ). Read c x.behind) h
+      go : (t : Bool) → ltb i (length s) ≡ t → byte_at s i ≡ read k x.behind
+      go true e = inside e ∙ ap (λ (c : ℕ). read c x.behind) h
       go false e = absurd (true-false (sym (eq-eqb k 0 (sym h ∙ at-end e)) ∙ z))
 
   -- what runs at a tag that is none of the table's runs without the table
@@ -77,12 +77,12 @@ module _ (s : List ℕ) (i : ℕ) (x : Tag) (answered : x ≡ tag_at s i) where
 
   pub key-run : {A : Type 0} (z : A) (ts : Tags A) (d : ℕ → ℕ → ℕ → Res A) (k : ℕ) → x.byte ≡ k → eqb k 0 ≡ false → (g.by_tag s z ts d).run i ≡ pick k ts (λ n. d k n x.behind) i x.behind
   unfolding g.by_tag reader
-  key-run z ts d k h n = ap (λ (y : Byte). g.on_byte y (λ c j. pick c ts (λ n. d c n j) i j) (refused z invalid i)) (there k h n)
+  key-run z ts d k h n = ap (λ (y : Option (ℕ × ℕ)). g.on_byte y (λ c j. pick c ts (λ n. d c n j) i j) (refused z invalid i)) (there k h n)
 
   -- the same where what is no tag goes on, the end too
   pub or-key-run : {A : Type 0} (z : A) (ts : Tags A) (d : ℕ → Res A) (k : ℕ) → x.byte ≡ k → eqb k 0 ≡ false → (g.or_tag s z ts d).run i ≡ pick k ts d i x.behind
   unfolding g.or_tag reader
-  or-key-run z ts d k h n = ap (λ (y : Byte). g.on_byte y (λ c j. pick c ts d i j) (d i)) (there k h n)
+  or-key-run z ts d k h n = ap (λ (y : Option (ℕ × ℕ)). g.on_byte y (λ c j. pick c ts d i j) (d i)) (there k h n)
 
   pub or-rest-run : {A : Type 0} (z : A) (ts : Tags A) (d : ℕ → Res A) → ((j : ℕ) → pick x.byte ts d i j ≡ d i) → (g.or_tag s z ts d).run i ≡ d i
   unfolding g.or_tag reader
@@ -100,12 +100,12 @@ alike {A} s i x answered z d e h = go (ltb i (length s)) refl
     go true q = rw (inside s i x answered q) (h x.behind)
     go false q = rw (outside s i x answered q)
 
-either : {A : Type 0} (y : Byte) (r : A) → r ≡ g.on_byte y (λ c j. r) r
-either (Read c j) r = refl
-either NoByte r = refl
+either : {A : Type 0} (y : Option (ℕ × ℕ)) (r : A) → r ≡ g.on_byte y (λ c j. r) r
+either (Some (c, j)) r = refl
+either None r = refl
 
 -- ---- what is done: st before, mv the state that the code goes on with
-module _ (m : ℕ) (s : List ℕ) (o : List ℕ) (st : State) (w : World) (x : Tag) (answered : x ≡ tag_at s st.place) (none : st.error ≡ 0) where
+module _ (m : Option Mode) (s : List ℕ) (o : List ℕ) (st : State) (w : World) (x : Tag) (answered : x ≡ tag_at s st.place) (none : st.error ≡ 0) where
   pub tag-next : (ts : Tags U) (d : ℕ → ℕ → ℕ → Res U) (a : Says U) (mv : State) (k : ℕ) → x.byte ≡ k → eqb k 0 ≡ false → st.full ≡ false → mv ≡ moved_to x.behind st → w ≡ lay m a (world o mv) → pick k ts (λ i. d k i x.behind) st.place x.behind ≡ a.run x.behind → w ≡ lay m (g.by_tag s tt ts d) (world o st)
   tag-next ts d a mv k h n f l p t = arm-moved m (g.by_tag s tt ts d) a x.behind o st mv w f none l p (key-run s st.place x answered tt ts d k h n ∙ t)
 

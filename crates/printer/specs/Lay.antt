@@ -1,11 +1,14 @@
 -- What a printer does, in code's terms: a buffer and the code's state, before and after. Assumes nothing: these are definitions.
-use Rattle.std.specs.Prelude.{ℕ, zero, suc, ◌+◌, ◌-◌, List, Bool, true, false, not, ◌||◌, ◌≡◌, length, get_or, leb, eqb}
-use Rattle.parser.specs.Digits.{if-then}
+use Rattle.std.specs.Prelude.{Option, Some, None, Ok, Err, ℕ, zero, suc, ◌+◌, ◌-◌, List, Bool, true, false, ◌||◌, ◌≡◌, length, leb}
 use Rattle.printer.specs.Over.{over}
 use Rattle.printer.specs.Says.{U, Res, ok, bad, Says, stop}
 use Rattle.pieces.specs.Piece.{Piece, render}
-use Rattle.pieces.specs.declared.put.Put.{Put}
-use Rattle.pieces.specs.declared.put.Put.TheVariants.{Done, NoRoom}
+use Rattle.printer.specs.declared.state.Status.{Status}
+use Rattle.printer.specs.declared.state.Status.TheVariants.{Going as IsGoing, Invalid, RecursedTooDeep, Full}
+use Rattle.printer.specs.declared.state.State as Code
+use Rattle.printer.specs.declared.state.Printer.{Printer}
+use Rattle.pieces.specs.Laid.{Put}
+use Rattle.pieces.specs.declared.mode.Mode.{Mode}
 
 -- where the printer stands, and what has become of the buffer
 pub record State : Type 0 where
@@ -15,16 +18,33 @@ pub record State : Type 0 where
   pub written : ℕ
   pub full : Bool
 
--- the code's four numbers: the place; the error, or 3 where the buffer is full; whether a target was damaged; the bytes written
-abbrev pub state_of : List ℕ → State
-state_of l =
-    record {
-      place = get_or l 0 0;
-      error = if-then (eqb (get_or l 1 0) 3) 0 (get_or l 1 0);
-      damaged = not (eqb (get_or l 2 0) 0);
-      written = get_or l 3 0;
-      full = eqb (get_or l 1 0) 3;
-    }
+-- the error as the model numbers it: none, Invalid, RecursedTooDeep; a full buffer has none
+abbrev pub code_of : Status → ℕ
+code_of IsGoing = 0
+code_of Invalid = 1
+code_of RecursedTooDeep = 2
+code_of Full = 0
+
+abbrev pub filled : Status → Bool
+filled IsGoing = false
+filled Invalid = false
+filled RecursedTooDeep = false
+filled Full = true
+
+-- the code's state
+abbrev pub state_of : Code.State → State
+state_of s = record { place = s.place; error = code_of s.status; damaged = s.damaged; written = s.written; full = filled s.status }
+
+-- with nothing written
+abbrev pub fresh : ℕ → State
+fresh i = record { place = i; error = 0; damaged = false; written = 0; full = false }
+
+-- with an error set, or full
+abbrev pub halts : Status → Bool
+halts IsGoing = false
+halts Invalid = true
+halts RecursedTooDeep = true
+halts Full = true
 
 pub record World : Type 0 where
   pub buf : List ℕ
@@ -41,12 +61,12 @@ pub record Out (A : Type 0) : Type 0 where
 abbrev pub out : {A : Type 0} → A → World → Out A
 out v w = record { value = v; world = w }
 
--- a buffer and the code's numbers; with what a function answers
-abbrev pub at : List ℕ → List ℕ → World
-at b l = world b (state_of l)
+-- a printer's buffer and state; with what a function answers
+abbrev pub at : Printer → World
+at p = world p.out.now (state_of p.st)
 
-abbrev pub given : {A : Type 0} → A → List ℕ → List ℕ → Out A
-given v b l = out v (at b l)
+abbrev pub given : {A : Type 0} → A → Printer → Out A
+given v p = out v (at p)
 
 -- with no error and room
 pub record Going (s : State) : Type 0 where
@@ -87,10 +107,10 @@ abbrev pub fitted : {A : Type 0} → Bool → A → A → A
 fitted true a b = a
 fitted false a b = b
 
-abbrev pub text : {A : Type 0} → ℕ → Res A → List ℕ
+abbrev pub text : {A : Type 0} → Option Mode → Res A → List ℕ
 text mode r = render mode (pieces_of r)
 
-abbrev pub laid : {A : Type 0} → A → ℕ → List ℕ → ℕ → Bool → Res A → Out A
+abbrev pub laid : {A : Type 0} → A → Option Mode → List ℕ → ℕ → Bool → Res A → Out A
 laid z mode b n d r =
     record {
       value = fitted (leb (length (text mode r)) (length b - n)) (value_of r) z;
@@ -104,15 +124,15 @@ laid z mode b n d r =
           };
     }
 
-abbrev pub lays_on : {A : Type 0} → Bool → A → ℕ → Says A → World → Out A
+abbrev pub lays_on : {A : Type 0} → Bool → A → Option Mode → Says A → World → Out A
 lays_on true z mode a w = record { value = z; world = w }
 lays_on false z mode a w = laid z mode w.buf w.st.written w.st.damaged (doing a w.st.place w.st.error)
 
 -- what a is, done to a buffer: its text laid from `written` on, its state after and its value, unless the buffer is full: then z
-unfoldable pub lays : {A : Type 0} → A → ℕ → Says A → World → Out A
+unfoldable pub lays : {A : Type 0} → A → Option Mode → Says A → World → Out A
 lays z mode a w = lays_on w.st.full z mode a w
 
-unfoldable pub lay : ℕ → Says U → World → World
+unfoldable pub lay : Option Mode → Says U → World → World
 unfolding lays
 lay mode a w = (lays tt mode a w).world
 
@@ -141,14 +161,14 @@ advanced_by n s = record { place = s.place; error = s.error; damaged = s.damaged
 
 -- after a piece: what a writer answered
 abbrev pub sum_of : Put → State → ℕ
-sum_of (Done n) s = s.written + n
-sum_of NoRoom s = 0
+sum_of (Ok n) s = s.written + n
+sum_of (Err e) s = 0
 
 abbrev pub settled_by : Put → State → State
-settled_by (Done n) s = advanced_by n s
-settled_by NoRoom s = full_state
+settled_by (Ok n) s = advanced_by n s
+settled_by (Err e) s = full_state
 
 -- what is off follows no back reference and looks no lifetime up
-abbrev pub follows : ℕ → Bool
-follows zero = false
-follows (suc m) = true
+abbrev pub follows : Option Mode → Bool
+follows None = false
+follows (Some m) = true

@@ -1,5 +1,5 @@
 -- The letters of the grammar, and which of them are an integer's type. Assumes nothing: these are definitions.
-use Rattle.std.specs.Prelude.{Bool, true, false, List, [], ◌∷◌, ℕ, eqb}
+use Rattle.std.specs.Prelude.{Option, Some, None, Bool, true, false, List, [], ◌∷◌, ℕ, eqb}
 use Rattle.parser.specs.Digits.{if-then}
 
 abbrev pub 'A' : ℕ
@@ -135,3 +135,7 @@ is_unsigned c = any_of c ('h' ∷ 'j' ∷ 'm' ∷ 'o' ∷ 't' ∷ 'y' ∷ [])
 
 unfoldable pub is_signed : ℕ → Bool
 is_signed c = any_of c ('a' ∷ 'i' ∷ 'l' ∷ 'n' ∷ 's' ∷ 'x' ∷ [])
+
+-- whether an integer's type is signed; none for another letter
+unfoldable pub signed_by : ℕ → Option Bool
+signed_by c = if-then (is_unsigned c) (Some false) (if-then (is_signed c) (Some true) None)

@@ -1,49 +1,36 @@
 -- The language and its text, by levels left: the definition of every printed byte. A line a production, in the Rust's order and by its
 -- names where they help. Assumes nothing: these are definitions.
 --   f: whether targets are followed and lifetimes looked up (nothing is where nothing is printed).   b: the binder count.
-use Rattle.std.specs.Prelude.{Bool, true, false, not, List, [], ◌∷◌, ◌++◌, ℕ, zero, suc, ◌+◌, ◌-◌, ◌^◌, min, leb, eqb, length, take, drop}
+use Rattle.std.specs.Prelude.{Option, Some, None, Bool, true, false, not, List, [], ◌∷◌, ◌++◌, ℕ, zero, suc, ◌+◌, ◌-◌, ◌^◌, min, leb, eqb, length, take, drop}
 use Rattle.parser.specs.Digits.{if-then}
-use Rattle.parser.specs.Bytes.{past, byte_at}
+use Rattle.parser.specs.Bytes.{past, byte_at, space_at}
 use Rattle.parser.specs.Number.{integer62, optional62, back_at}
 use Rattle.parser.specs.Names.{ident_at}
-use Rattle.parser.specs.declared.bytes.Byte.{Byte}
-use Rattle.parser.specs.declared.bytes.Byte.TheVariants.{Read, Invalid as NoByte}
-use Rattle.parser.specs.declared.number.Num.{Num}
-use Rattle.parser.specs.declared.number.Num.TheVariants.{Value, Invalid as NoNum}
-use Rattle.parser.specs.declared.number.Back.{Back}
-use Rattle.parser.specs.declared.number.Back.TheVariants.{Target, Invalid as NoBack}
 use Rattle.parser.specs.declared.names.Name.{Name}
-use Rattle.parser.specs.declared.names.Name.TheVariants.{Parts, Invalid as NoName}
 use Rattle.nibbles.specs.Uint.{hex_value}
 use Rattle.nibbles.specs.declared.uint.Hex.{Hex}
-use Rattle.nibbles.specs.declared.uint.Hex.TheVariants.{Small, Big, Invalid as NoHex}
+use Rattle.nibbles.specs.declared.uint.Hex.TheVariants.{Small, Big}
 use Rattle.pieces.specs.Basic.{is_basic}
 use Rattle.pieces.specs.Quoted.{chars_of}
 use Rattle.pieces.specs.Piece.{Piece, word, letter, run, abi, name, number, hash, life, basic, kind, quote}
 use Rattle.pieces.specs.Words as W
+use Rattle.pieces.specs.declared.words.Word.{Word}
 use Rattle.printer.specs.Says.{U, invalid, too_deep, Res, ok, bad, Says, refused, next, ◌>>=◌, ◌then◌, give, emit, on_error, broken, reader, still, Got, got, lost, need, choose, mute, caught, Tags, pick}
 use Rattle.printer.specs.Letters.{'A', 'B', 'C', 'D', 'E', 'F', 'G', 'I', 'K', 'L', 'M', 'N', 'O', 'P', 'Q', 'R', 'S', 'T', 'U', 'V', 'W', 'X', 'Y', 'b', 'c', 'e', 'n', 'p', 's', 'u', 'w', is_unsigned, is_signed}
-use Rattle.printer.specs.Readings.{letter_at, named_at, life_at, head_at, flag_at, scalar_at, literal_at}
-use Rattle.printer.specs.declared.read.Letter.{Letter}
-use Rattle.printer.specs.declared.read.Letter.TheVariants.{Of as Ns, Invalid as NoLetter}
-use Rattle.printer.specs.declared.read.Named.{Named}
-use Rattle.printer.specs.declared.read.Named.TheVariants.{Of as Called, Invalid as NoNamed}
+use Rattle.printer.specs.Readings.{named_at, life_at, head_at, flag_at, scalar_at, literal_at}
 use Rattle.printer.specs.declared.read.Head.{Head}
-use Rattle.printer.specs.declared.read.Head.TheVariants.{Of as Before, Invalid as NoHead}
-use Rattle.printer.specs.declared.read.Flag.{Flag}
-use Rattle.printer.specs.declared.read.Flag.TheVariants.{Of as Is, Invalid as NoFlag}
-use Rattle.printer.specs.declared.read.Literal.{Literal}
-use Rattle.printer.specs.declared.read.Literal.TheVariants.{Of as Spelt, Invalid as NoLiteral}
+use Rattle.printer.specs.declared.read.Abi.{Abi}
+use Rattle.printer.specs.declared.read.Abi.TheVariants.{C, Named}
 use Rattle.printer.specs.declared.kinds.Kind.{Kind}
 use Rattle.printer.specs.declared.kinds.Kind.TheVariants.{Path, Value as InValue, Ty, Const, Expr}
 use Rattle.printer.specs.declared.kinds.Item.{Item}
 use Rattle.printer.specs.declared.kinds.Item.TheVariants.{Ty as AType, Arg, Expr as AValue, Field, Trait}
 
 -- ---- words
-abbrev pub say : ℕ → Says U
+abbrev pub say : Word → Says U
 say k = emit (word k ∷ [])
 
-abbrev pub say_if : Bool → ℕ → Says U
+abbrev pub say_if : Bool → Word → Says U
 say_if t k = emit (if-then t (word k ∷ []) [])
 
 -- a special namespace: `closure`, `shim`, or its letter
@@ -54,85 +41,56 @@ space_name c = if-then (eqb c 'C') (word W.closure) (if-then (eqb c 'S') (word W
 unfoldable pub small_pieces : ℕ → ℕ → List Piece
 small_pieces tag v = number v ∷ kind tag ∷ []
 
--- ---- identifiers that were read: the bytes from a to e, of which those to b are ASCII and those from c on Punycode
+-- ---- identifiers that were read
 module _ (s : List ℕ) where
-  abbrev pub ident : ℕ → ℕ → ℕ → ℕ → Piece
-  ident a b c e = name (b - a) (c - a) (take (e - a) (drop a s))
+  abbrev pub ident : Name → Piece
+  ident n = name (n.split - n.start) (n.code - n.start) (take (n.end - n.start) (drop n.start s))
 
   -- with a word before it, unless it is empty
-  unfoldable pub unless_empty : ℕ → ℕ → ℕ → ℕ → ℕ → List Piece
-  unless_empty k a b c e = if-then (eqb a e) [] (word k ∷ ident a b c e ∷ [])
+  unfoldable pub unless_empty : Word → Name → List Piece
+  unless_empty k n = if-then (eqb n.start n.end) [] (word k ∷ ident n ∷ [])
 
   -- `::{closure:name#1}`
-  unfoldable pub special_name : ℕ → ℕ → ℕ → ℕ → ℕ → ℕ → List Piece
-  special_name ns d a b c e =
-      (word W.special ∷ space_name ns ∷ unless_empty W.colon a b c e) ++ (word W.hash ∷ number d ∷ word W.close ∷ [])
+  unfoldable pub special_name : ℕ → ℕ → Name → List Piece
+  special_name ns d n = (word W.special ∷ space_name ns ∷ unless_empty W.colon n) ++ (word W.hash ∷ number d ∷ word W.close ∷ [])
 
-  -- a nested path's own name
-  unfoldable pub nested_name : ℕ → ℕ → ℕ → ℕ → ℕ → ℕ → List Piece
-  nested_name ns d a b c e = if-then (eqb ns 0) (unless_empty W.colons a b c e) (special_name ns d a b c e)
+  -- a nested path's own name, in a namespace that is shown or in another
+  unfoldable pub nested_name : Option ℕ → ℕ → Name → List Piece
+  nested_name None d n = unless_empty W.colons n
+  nested_name (Some ns) d n = special_name ns d n
 
 -- ---- readings, as `parse!` takes them
-abbrev pub got_num : Num → Got ℕ
-got_num (Value v next) = got v next
-got_num NoNum = lost invalid
+abbrev pub got_from : {A : Type 0} → Option (A × ℕ) → Got A
+got_from (Some (v, next)) = got v next
+got_from None = lost invalid
 
-abbrev pub got_back : Back → Got ℕ
-got_back (Target v next) = got v next
-got_back NoBack = lost invalid
+-- an identifier, whose end is the next place; with a number before it
+abbrev pub got_name : Option Name → Got Name
+got_name (Some n) = got n n.end
+got_name None = lost invalid
 
-abbrev pub got_letter : Letter → Got ℕ
-got_letter (Ns c next) = got c next
-got_letter NoLetter = lost invalid
-
-abbrev pub got_flag : Flag → Got Bool
-got_flag (Is t next) = got t next
-got_flag NoFlag = lost invalid
-
--- an identifier's places, the fourth of which is the next place; with a number before it
-pub record Places : Type 0 where
-  pub num : ℕ
-  pub a : ℕ
-  pub b : ℕ
-  pub c : ℕ
-  pub e : ℕ
-
-abbrev pub got_name : Name → Got Places
-got_name (Parts a b c e) = got (record { num = 0; a = a; b = b; c = c; e = e }) e
-got_name NoName = lost invalid
-
-abbrev pub got_named : Named → Got Places
-got_named (Called d a b c e) = got (record { num = d; a = a; b = b; c = c; e = e }) e
-got_named NoNamed = lost invalid
-
-pub record Abi : Type 0 where
-  pub is_unsafe : Bool
-  pub which : ℕ
-  pub a : ℕ
-  pub b : ℕ
-
-abbrev pub got_head : Head → Got Abi
-got_head (Before u k a b next) = got (record { is_unsafe = u; which = k; a = a; b = b }) next
-got_head NoHead = lost invalid
+abbrev pub got_named : Option (ℕ × Name) → Got (ℕ × Name)
+got_named (Some (d, n)) = got (d, n) n.end
+got_named None = lost invalid
 
 -- an integer: its value, or that it does not fit and where its nibbles lie
 pub data Integer : Type 0 where
   small : ℕ → Integer
   large : ℕ → ℕ → Integer
 
-abbrev pub got_hex : ℕ → Hex → Got Integer
-got_hex at (Small v next) = got (small v) next
-got_hex at (Big e next) = got (large at e) next
-got_hex at NoHex = lost invalid
+abbrev pub got_hex : ℕ → Option (Hex × ℕ) → Got Integer
+got_hex at (Some (Small v, next)) = got (small v) next
+got_hex at (Some (Big e, next)) = got (large at e) next
+got_hex at None = lost invalid
 
-abbrev pub got_literal : ℕ → Literal → Got (ℕ × ℕ)
-got_literal at (Spelt e next) = got (at, e) next
-got_literal at NoLiteral = lost invalid
+abbrev pub got_literal : ℕ → Option (ℕ × ℕ) → Got (ℕ × ℕ)
+got_literal at (Some (e, next)) = got (at, e) next
+got_literal at None = lost invalid
 
 -- a byte and the place behind it, or none
-abbrev pub on_byte : {A : Type 0} → Byte → (ℕ → ℕ → A) → A → A
-on_byte (Read c j) f z = f c j
-on_byte NoByte f z = z
+abbrev pub on_byte : {A : Type 0} → Option (ℕ × ℕ) → (ℕ → ℕ → A) → A → A
+on_byte (Some (c, j)) f z = f c j
+on_byte None f z = z
 
 -- a tag that no production has
 abbrev pub unknown : ℕ → ℕ → ℕ → Res U
@@ -176,7 +134,7 @@ unfoldable pub binder : ℕ → ℕ → List Piece
 binder b n = if-then (eqb n 0) [] (word W.for ∷ (lives b 0 n ++ (word W.for-end ∷ [])))
 
 -- the separator of a list
-unfoldable pub sep_of : Item → ℕ
+unfoldable pub sep_of : Item → Word
 sep_of AType = W.comma-blank
 sep_of Arg = W.comma-blank
 sep_of AValue = W.comma-blank
@@ -210,40 +168,42 @@ module _ (s : List ℕ) where
 
   -- ---- leaves
   unfoldable pub krate : Says U
-  krate = need (λ i. got_named (named_at s i)) tt (λ r. emit (ident s r.a r.b r.c r.e ∷ hash r.num ∷ []))
+  krate = need (λ i. got_named (named_at s i)) tt (λ r. emit (ident s r.1 ∷ hash r.0 ∷ []))
 
-  unfoldable pub nested : ℕ → Says U
-  nested ns = need (λ i. got_named (named_at s i)) tt (λ r. emit (nested_name s ns r.num r.a r.b r.c r.e))
+  unfoldable pub nested : Option ℕ → Says U
+  nested ns = need (λ i. got_named (named_at s i)) tt (λ r. emit (nested_name s ns r.0 r.1))
 
   unfoldable pub lifetime : Deep U
-  lifetime f b = need (λ i. got_num (integer62 s i)) tt (life_of f b)
+  lifetime f b = need (λ i. got_from (integer62 s i)) tt (life_of f b)
 
   unfoldable pub bound_life : Deep U
-  bound_life f b = need (λ i. got_num (integer62 s i)) tt (end_life f b)
+  bound_life f b = need (λ i. got_from (integer62 s i)) tt (end_life f b)
 
   unfoldable pub bound : Deep U
   bound f b = eat 'L' >>= λ y. choose y (bound_life f b) broken
 
   -- a reference's sign, its lifetime if that is not 0, and `mut`; the value says whether the type comes behind them
   unfoldable pub ref_rest : Bool → Deep Bool
-  ref_rest is_mut f b = need (λ i. got_num (life_at s i)) false (λ lt. ref_life f b lt then say_if is_mut W.mut then give true)
+  ref_rest is_mut f b = need (λ i. got_from (life_at s i)) false (λ lt. ref_life f b lt then say_if is_mut W.mut then give true)
 
   unfoldable pub reference : Bool → Deep Bool
   reference is_mut f b = say W.ref then ref_rest is_mut f b
 
-  -- the ABI of a function pointer: 0 none, 1 `C`, 2 the name between two places
+  -- the ABI of a function pointer: none, `C`, or the name between two places
   unfoldable pub abi_pieces : ℕ → ℕ → List Piece
   abi_pieces a b = word W.extern ∷ abi (take (b - a) (drop a s)) ∷ word W.extern-end ∷ []
 
-  unfoldable pub which_abi : ℕ → ℕ → ℕ → List Piece
-  which_abi k a b = if-then (eqb k 0) [] (if-then (eqb k 1) (word W.extern ∷ word W.c ∷ word W.extern-end ∷ []) (abi_pieces a b))
+  unfoldable pub maybe_abi : Option Abi → List Piece
+  maybe_abi None = []
+  maybe_abi (Some C) = word W.extern ∷ word W.c ∷ word W.extern-end ∷ []
+  maybe_abi (Some (Named a b)) = abi_pieces a b
 
-  unfoldable pub head_pieces : Bool → ℕ → ℕ → ℕ → List Piece
-  head_pieces u k a b = if-then u (word W.unsafe ∷ []) [] ++ (which_abi k a b ++ (word W.fn ∷ []))
+  unfoldable pub head_pieces : Head → List Piece
+  head_pieces h = if-then h.is_unsafe (word W.unsafe ∷ []) [] ++ (maybe_abi h.abi ++ (word W.fn ∷ []))
 
   -- what stands before the parameters; the value says whether they come behind it
   unfoldable pub sig_head : Says Bool
-  sig_head = need (λ i. got_head (head_at s i)) false (λ h. emit (head_pieces h.is_unsafe h.which h.a h.b) then give true)
+  sig_head = need (λ i. got_from (head_at s i)) false (λ h. emit (head_pieces h) then give true)
 
   -- an integer that does not fit 64 bits by its nibbles
   unfoldable pub large_pieces : ℕ → ℕ → ℕ → List Piece
@@ -264,10 +224,10 @@ module _ (s : List ℕ) where
   integer c i j = if-then (is_unsigned c) ((uint c).run j) (if-then (is_signed c) ((int c).run j) (refused tt invalid i))
 
   unfoldable pub boolean : Says U
-  boolean = need (λ i. got_flag (flag_at s i)) tt (λ t. say (if-then t W.true W.false))
+  boolean = need (λ i. got_from (flag_at s i)) tt (λ t. say (if-then t W.true W.false))
 
   unfoldable pub character : Says U
-  character = need (λ i. got_num (scalar_at s i)) tt (λ c. emit (quote 39 (c ∷ []) ∷ []))
+  character = need (λ i. got_from (scalar_at s i)) tt (λ c. emit (quote 39 (c ∷ []) ∷ []))
 
   unfoldable pub literal : Says U
   literal = need (λ i. got_literal i (literal_at s i)) tt (λ p. emit (quote 34 (chars_of (take (p.1 - p.0) (drop p.0 s))) ∷ []))
@@ -276,7 +236,7 @@ module _ (s : List ℕ) where
   unsized_literal = say W.star then literal
 
   -- ---- a list up to an E, with k turns left; i elements are read. Turns never run out
-  unfoldable pub list_n : ℕ → Says U → ℕ → ℕ → Says ℕ
+  unfoldable pub list_n : Word → Says U → ℕ → ℕ → Says ℕ
   list_n t a zero i = record { run = λ p. bad i invalid p false []; stopped = still i }
   list_n t a (suc k) i = record { run = λ p. if-then (eqb (past 'E' s p) p) ((say_if (not (eqb i 0)) t then a then list_n t a k (suc i)).run p) (ok i (past 'E' s p) false []); stopped = still i }
 
@@ -297,15 +257,15 @@ module _ (s : List ℕ) where
 
     -- N: a path in a namespace
     unfoldable pub nest : Bool → Deep U
-    nest value f b = need (λ i. got_letter (letter_at s i)) tt (λ ns. p.path value f b then on_error (word W.colons ∷ []) then nested ns)
+    nest value f b = need (λ i. got_from (space_at s i)) tt (λ ns. p.path value f b then on_error (word W.colons ∷ []) then nested ns)
 
     -- M, X: the path of the `impl` is read and not printed
     unfoldable pub imp : Bool → Deep U
-    imp with f b = need (λ i. got_num (optional62 's' s i)) tt (λ _. mute (p.path false false b) then qself with f b)
+    imp with f b = need (λ i. got_from (optional62 's' s i)) tt (λ _. mute (p.path false false b) then qself with f b)
 
     -- B
     unfoldable pub back : Kind → Deep U
-    back k f b = need (λ i. got_back (back_at s i)) tt (p.aim k f b)
+    back k f b = need (λ i. got_from (back_at s i)) tt (p.aim k f b)
 
     -- what is bound to an associated type
     unfoldable pub bound_to : Deep U
@@ -313,7 +273,7 @@ module _ (s : List ℕ) where
 
     -- one binding behind its `p`; the value says whether its name was read
     unfoldable pub bound_name : Deep Bool
-    bound_name f b = need (λ i. got_name (ident_at s i)) false (λ r. emit (ident s r.a r.b r.c r.e ∷ word W.equals ∷ []) then bound_to f b then give true)
+    bound_name f b = need (λ i. got_name (ident_at s i)) false (λ n. emit (ident s n ∷ word W.equals ∷ []) then bound_to f b then give true)
 
     unfoldable pub binding : Bool → Deep Bool
     binding opened f b = say (if-then opened W.comma-blank W.less) then bound_name f b
@@ -344,14 +304,14 @@ module _ (s : List ℕ) where
 
     -- a field of a struct
     unfoldable pub field : Deep U
-    field f b = need (λ i. got_named (named_at s i)) tt (λ r. emit (ident s r.a r.b r.c r.e ∷ word W.field ∷ []) then p.con true f b)
+    field f b = need (λ i. got_named (named_at s i)) tt (λ r. emit (ident s r.1 ∷ word W.field ∷ []) then p.con true f b)
 
     -- a path whose generics may be left open for what is bound behind it: the value says whether they are
     unfoldable pub open_back : Deep Bool
-    open_back f b = need (λ i. got_back (back_at s i)) false (p.open_at f b)
+    open_back f b = need (λ i. got_from (back_at s i)) false (p.open_at f b)
 
     -- ---- lists, of elements that are said as a
-    unfoldable pub list_of : ℕ → Says U → Says ℕ
+    unfoldable pub list_of : Word → Says U → Says ℕ
     list_of t a = list_n t a (length s) 0
 
     unfoldable pub open_generic : Deep Bool
@@ -393,7 +353,7 @@ module _ (s : List ℕ) where
     refer is_mut f b = reference is_mut f b >>= λ more. choose more (type f b) (emit [])
 
     -- P, O: a pointer behind its word
-    unfoldable pub pointer : ℕ → Deep U
+    unfoldable pub pointer : Word → Deep U
     pointer k f b = say k then type f b
 
     -- A, S: an array with its length, a slice
@@ -421,11 +381,11 @@ module _ (s : List ℕ) where
     signature f b = sig_head >>= λ more. choose more (parameters f b) (emit [])
 
     unfoldable pub function : Deep U
-    function f b = need (λ i. got_num (optional62 'G' s i)) tt (λ n. emit (binder b n) then signature f (held (b + n)))
+    function f b = need (λ i. got_from (optional62 'G' s i)) tt (λ n. emit (binder b n) then signature f (held (b + n)))
 
     -- D: a trait object, whose binder counts for its traits and not for the lifetime behind them
     unfoldable pub traits : Deep U
-    traits f b = need (λ i. got_num (optional62 'G' s i)) tt (λ n. emit (binder b n) then list Trait f (held (b + n)) then emit [])
+    traits f b = need (λ i. got_from (optional62 'G' s i)) tt (λ n. emit (binder b n) then list Trait f (held (b + n)) then emit [])
 
     unfoldable pub object : Deep U
     object f b = say W.dyn then traits f b then bound f b
@@ -439,7 +399,7 @@ module _ (s : List ℕ) where
     refer_to is_mut f b = say W.ref then say_if is_mut W.mut then p.con true f b
 
     -- from a word to a word
-    unfoldable pub between : ℕ → Item → ℕ → Deep U
+    unfoldable pub between : Word → Item → Word → Deep U
     between from k to f b = say from then list k f b then say to
 
     -- by the tag: the body, in braces; but a reference to a string is the string
@@ -456,7 +416,7 @@ module _ (s : List ℕ) where
     ref_const value f b = eat 'e' >>= λ y. choose y literal (braced_by 'R' value f b)
 
     -- V: a value of a struct or an enum: its path, and its fields. Where those are not read, no brace closes it
-    unfoldable pub fields : ℕ → Item → ℕ → Bool → Deep U
+    unfoldable pub fields : Word → Item → Word → Bool → Deep U
     fields from k to value f b = between from k to f b then say_if (not value) W.close
 
     unfoldable pub variant : Bool → Deep U

@@ -1,611 +1,563 @@
-// The parts of a symbol that hold no other part: names, lifetimes, binders, literals.
+// The parts of a symbol that hold no other part: names, lifetimes, binders, literals. Those that look alike (`lifetime` and `bound_life`,
+// `boolean` and `character`) differ in what is read and in what is said of it, which is all that they have.
+// `krate`, `after_word` and `boolean` have answers that search: `using` stops at its limits there (tried).
+// That a name lies within the symbol is asked beside it: a `Name` is four places, and the symbol is none of its parts.
 ghost use Rattle.std.specs.Prelude.{◌≡◌, Bool, true, false, [], ◌∷◌, ◌++◌, ◌+◌, ◌≤◌, ◌^◌, length};
 ghost use Rattle.parser.specs.Digits.{if-then};
 ghost use Rattle.pieces.specs.Piece.{word, number};
 ghost use Rattle.pieces.specs.Words as W;
 ghost use Rattle.printer.specs.Says.{emit};
-ghost use Rattle.printer.specs.Readings.{Within};
+ghost use Rattle.printer.specs.Readings.{Within, AbiWithin};
 ghost use Rattle.printer.specs.Lay.{Going, state_of, at, given, lay, lays, follows};
 ghost use Rattle.printer.specs.Letters as letters;
 ghost use Rattle.printer.specs.Model as g;
 ghost use Rattle.printer.specs.Parts as part;
 
-use crate::read::{Head, Literal, Named, look, numbered};
-use crate::state::go;
+use crate::kinds::choose;
+use crate::read::{Abi, Head, look, numbered};
+use crate::state::Printer;
 use crate::text;
+use crate::text::{AbiName, Basic, Decimal, Ident, Letter, Life, Quoted, Run, Text};
 use nibbles::uint::{Hex, hex_value};
 use parser::bytes::eat;
-use parser::number::{Num, integer_62};
-use pieces::words;
+use parser::names::Name;
+use parser::number::integer_62;
+use pieces::mode::Mode;
+use pieces::words::Word;
 
-// An identifier that was read.
-fn name(
-    s: &[u8],
-    out: &mut [u8],
-    st: &mut [usize; 4],
-    a: usize,
-    b: usize,
-    c: usize,
-    e: usize,
-    mode: u8,
-)
-    requires { Within s.now a b c e }
-    ensures { at out.new st.new ≡ lay mode (emit (g.ident s.now a b c e ∷ [])) (at out.old st.old) }
-{
-    text::name(out, st, &s[a..e], b - a, c - a, mode);
-}
-
-// What needs a level where none is left: the end of the symbol is Invalid all the same.
-pub fn no_level(s: &[u8], out: &mut [u8], st: &mut [usize; 4], mode: u8)
-    requires { Going (state_of st.old) }
-    ensures { at out.new st.new ≡ lay mode (part.no_level s.now) (at out.old st.old) }
-{
-    if st[0] < s.len() {
-        text::too_deep(out, st, mode);
-        return;
+impl Printer<'_> {
+    // An identifier that was read.
+    #[tactic(auto, using(crate::proofs::LeafLaws::name_laws))]
+    fn name(&mut self, s: &[u8], name: Name, mode: Option<Mode>)
+        requires { Within s.now name }
+        ensures says { at self.new ≡ lay mode (emit (g.ident s.now name ∷ [])) (at self.old) }
+        ensures lent { self.new.out.ghost_name ≡ self.old.out.ghost_name }
+    {
+        self.say(
+            Ident {
+                bytes: &s[name.start..name.end],
+                ascii: name.split - name.start,
+                code: name.code - name.start,
+            },
+            mode,
+        );
     }
-    text::invalid(out, st, mode);
-}
 
-// A crate's name and number. Where nothing is printed, only the place moves.
-pub fn krate(s: &[u8], out: &mut [u8], st: &mut [usize; 4], mode: u8)
-    requires { Going (state_of st.old) }
-    ensures { at out.new st.new ≡ lay mode (g.krate s.now) (at out.old st.old) }
-{
-    let Named::Of(d, a, b, c, e) = numbered(s, st[0]) else {
-        text::invalid(out, st, mode);
-        return;
-    };
-    go(st, e);
-    if mode == 0 {
-        return;
+    // What needs a level where none is left: the end of the symbol is Invalid all the same.
+    #[tactic(auto, using(crate::proofs::LeafLaws::level_laws))]
+    pub fn no_level(&mut self, s: &[u8], mode: Option<Mode>)
+        requires { Going (state_of self.old.st) }
+        ensures says { at self.new ≡ lay mode (part.no_level s.now) (at self.old) }
+        ensures lent { self.new.out.ghost_name ≡ self.old.out.ghost_name }
+    {
+        if self.st.place < s.len() {
+            self.too_deep(mode);
+            return;
+        }
+        self.invalid(mode);
     }
-    name(s, out, st, a, b, c, e, mode);
-    text::crate_number(out, st, d, mode);
-}
 
-// An identifier with a word before it, unless it is empty.
-fn after_word(
-    s: &[u8],
-    out: &mut [u8],
-    st: &mut [usize; 4],
-    k: usize,
-    a: usize,
-    b: usize,
-    c: usize,
-    e: usize,
-    mode: u8,
-)
-    requires { Within s.now a b c e }
-    ensures { at out.new st.new ≡ lay mode (emit (g.unless_empty s.now k a b c e)) (at out.old st.old) }
-{
-    if a == e {
-        return;
+    // A crate's name and number. Where nothing is printed, only the place moves.
+    #[tactic(auto, using(crate::proofs::LeafLaws::krate_laws))]
+    pub fn krate(&mut self, s: &[u8], mode: Option<Mode>)
+        requires { Going (state_of self.old.st) }
+        ensures says { at self.new ≡ lay mode (g.krate s.now) (at self.old) }
+        ensures lent { self.new.out.ghost_name ≡ self.old.out.ghost_name }
+    {
+        let Some((d, name)) = numbered(s, self.st.place) else {
+            self.invalid(mode);
+            return;
+        };
+        self.st.go(name.end);
+        if mode.is_none() {
+            return;
+        }
+        self.name(s, name, mode);
+        self.crate_number(d, mode);
     }
-    text::word(out, st, k, mode);
-    name(s, out, st, a, b, c, e, mode);
-}
 
-// The name of a special namespace.
-fn namespace(out: &mut [u8], st: &mut [usize; 4], ns: u8, mode: u8)
-    ensures { at out.new st.new ≡ lay mode (emit (g.space_name ns ∷ [])) (at out.old st.old) }
-{
-    match ns {
-        b'C' => text::word(out, st, words::CLOSURE, mode),
-        b'S' => text::word(out, st, words::SHIM, mode),
-        _ => text::byte(out, st, ns, mode),
+    // An identifier with a word before it, unless it is empty.
+    #[tactic(auto, using(crate::proofs::LeafLaws::after_laws))]
+    fn after_word(&mut self, s: &[u8], k: Word, name: Name, mode: Option<Mode>)
+        requires { Within s.now name }
+        ensures says { at self.new ≡ lay mode (emit (g.unless_empty s.now k name)) (at self.old) }
+        ensures lent { self.new.out.ghost_name ≡ self.old.out.ghost_name }
+    {
+        if name.start == name.end {
+            return;
+        }
+        self.say(k, mode);
+        self.name(s, name, mode);
     }
-}
 
-// `#1}`
-fn counter(out: &mut [u8], st: &mut [usize; 4], d: u64, mode: u8)
-    ensures { at out.new st.new ≡ lay mode (emit (word W.hash ∷ number d ∷ word W.close ∷ [])) (at out.old st.old) }
-{
-    text::word(out, st, words::HASH, mode);
-    text::number(out, st, d, mode);
-    text::word(out, st, words::CLOSE, mode);
-}
-
-// `::{closure:name#1}`
-fn special(
-    s: &[u8],
-    out: &mut [u8],
-    st: &mut [usize; 4],
-    ns: u8,
-    d: u64,
-    a: usize,
-    b: usize,
-    c: usize,
-    e: usize,
-    mode: u8,
-)
-    requires { Within s.now a b c e }
-    ensures { at out.new st.new ≡ lay mode (emit (g.special_name s.now ns d a b c e)) (at out.old st.old) }
-{
-    text::word(out, st, words::SPECIAL, mode);
-    namespace(out, st, ns, mode);
-    after_word(s, out, st, words::COLON, a, b, c, e, mode);
-    counter(out, st, d, mode);
-}
-
-// The name of a nested path, behind the path: of a special namespace with its letter, of another with 0.
-pub fn nested(s: &[u8], out: &mut [u8], st: &mut [usize; 4], ns: u8, mode: u8)
-    ensures { at out.new st.new ≡ lay mode (g.nested s.now ns) (at out.old st.old) }
-{
-    if st[1] != 0 {
-        text::word(out, st, words::ASK, mode);
-        return;
+    // The name of a special namespace.
+    #[tactic(auto, using(crate::proofs::LeafLaws::space_laws))]
+    fn namespace(&mut self, ns: u8, mode: Option<Mode>)
+        ensures says { at self.new ≡ lay mode (emit (g.space_name ns ∷ [])) (at self.old) }
+        ensures lent { self.new.out.ghost_name ≡ self.old.out.ghost_name }
+    {
+        match ns {
+            b'C' => self.say(Word::Closure, mode),
+            b'S' => self.say(Word::Shim, mode),
+            _ => self.say(Letter(ns), mode),
+        }
     }
-    let Named::Of(d, a, b, c, e) = numbered(s, st[0]) else {
-        text::invalid(out, st, mode);
-        return;
-    };
-    go(st, e);
-    if mode == 0 {
-        return;
+
+    // `#1}`
+    #[tactic(auto, using(crate::proofs::LeafLaws::pieces))]
+    fn counter(&mut self, d: u64, mode: Option<Mode>)
+        ensures says { at self.new ≡ lay mode (emit (word W.hash ∷ number d ∷ word W.close ∷ [])) (at self.old) }
+        ensures lent { self.new.out.ghost_name ≡ self.old.out.ghost_name }
+    {
+        self.say(Word::Hash, mode);
+        self.say(Decimal(d), mode);
+        self.say(Word::Close, mode);
     }
-    if ns == 0 {
-        after_word(s, out, st, words::COLONS, a, b, c, e, mode);
-        return;
+
+    // `::{closure:name#1}`
+    #[tactic(auto, using(crate::proofs::LeafLaws::special_laws))]
+    fn special(&mut self, s: &[u8], ns: u8, d: u64, name: Name, mode: Option<Mode>)
+        requires { Within s.now name }
+        ensures says { at self.new ≡ lay mode (emit (g.special_name s.now ns d name)) (at self.old) }
+        ensures lent { self.new.out.ghost_name ≡ self.old.out.ghost_name }
+    {
+        self.say(Word::Special, mode);
+        self.namespace(ns, mode);
+        self.after_word(s, Word::Colon, name, mode);
+        self.counter(d, mode);
     }
-    special(s, out, st, ns, d, a, b, c, e, mode);
-}
 
-// The name of an associated type, before what is bound to it.
-pub fn bind_name(
-    s: &[u8],
-    out: &mut [u8],
-    st: &mut [usize; 4],
-    a: usize,
-    b: usize,
-    c: usize,
-    e: usize,
-    mode: u8,
-)
-    requires { Within s.now a b c e }
-    ensures { at out.new st.new ≡ lay mode (emit (g.ident s.now a b c e ∷ word W.equals ∷ [])) (at out.old st.old) }
-{
-    name(s, out, st, a, b, c, e, mode);
-    text::word(out, st, words::EQUALS, mode);
-}
-
-// The name of a field.
-pub fn field_name(
-    s: &[u8],
-    out: &mut [u8],
-    st: &mut [usize; 4],
-    a: usize,
-    b: usize,
-    c: usize,
-    e: usize,
-    mode: u8,
-)
-    requires { Within s.now a b c e }
-    ensures { at out.new st.new ≡ lay mode (emit (g.ident s.now a b c e ∷ word W.field ∷ [])) (at out.old st.old) }
-{
-    name(s, out, st, a, b, c, e, mode);
-    text::word(out, st, words::FIELD, mode);
-}
-
-// What stands before a binding: the first opens the generics, where they are not open.
-pub fn bind_word(opened: bool) -> usize
-    ensures { result ≡ if-then opened W.comma-blank W.less }
-{
-    if opened {
-        words::COMMA_BLANK
-    } else {
-        words::LESS
+    // The name of a nested path, behind the path: of a special namespace with its letter.
+    #[tactic(auto, using(crate::proofs::LeafLaws::nested_laws))]
+    pub fn nested(&mut self, s: &[u8], ns: Option<u8>, mode: Option<Mode>)
+        ensures says { at self.new ≡ lay mode (g.nested s.now ns) (at self.old) }
+        ensures lent { self.new.out.ghost_name ≡ self.old.out.ghost_name }
+    {
+        if self.st.stopped() {
+            self.say(Word::Ask, mode);
+            return;
+        }
+        let Some((d, name)) = numbered(s, self.st.place) else {
+            self.invalid(mode);
+            return;
+        };
+        self.st.go(name.end);
+        if mode.is_none() {
+            return;
+        }
+        match ns {
+            Some(letter) => self.special(s, letter, d, name, mode),
+            None => self.after_word(s, Word::Colons, name, mode),
+        }
     }
-}
 
-// What opens the generics of a path.
-pub fn less_word(value: bool) -> usize
-    ensures { result ≡ if-then value W.value-less W.less }
-{
-    if value {
-        words::VALUE_LESS
-    } else {
-        words::LESS
+    // An identifier with a word behind it.
+    #[tactic(auto, using(crate::proofs::LeafLaws::pieces))]
+    pub fn name_and(&mut self, s: &[u8], name: Name, behind: Word, mode: Option<Mode>)
+        requires { Within s.now name }
+        ensures says { at self.new ≡ lay mode (emit (g.ident s.now name ∷ word behind ∷ [])) (at self.old) }
+        ensures lent { self.new.out.ghost_name ≡ self.old.out.ghost_name }
+    {
+        self.name(s, name, mode);
+        self.say(behind, mode);
     }
-}
 
-// A lifetime that no binder binds.
-fn unbound(out: &mut [u8], st: &mut [usize; 4], mode: u8)
-    ensures { at out.new st.new ≡ lay mode (g.unbound) (at out.old st.old) }
-{
-    text::word(out, st, words::TICK, mode);
-    text::invalid(out, st, mode);
-}
-
-// `'_`
-fn no_name(out: &mut [u8], st: &mut [usize; 4], mode: u8)
-    ensures { at out.new st.new ≡ lay mode (emit (word W.tick ∷ word W.underscore ∷ [])) (at out.old st.old) }
-{
-    text::word(out, st, words::TICK, mode);
-    text::word(out, st, words::UNDERSCORE, mode);
-}
-
-// A lifetime by its number, looked up unless nothing is printed.
-fn life(out: &mut [u8], st: &mut [usize; 4], lt: u64, binder: u64, mode: u8)
-    ensures { at out.new st.new ≡ lay mode (g.life_of (follows mode) binder lt) (at out.old st.old) }
-{
-    if mode == 0 {
-        return;
+    // A lifetime that no binder binds.
+    #[tactic(auto, using(crate::proofs::LeafLaws::unbound_laws))]
+    fn unbound(&mut self, mode: Option<Mode>)
+        ensures says { at self.new ≡ lay mode (g.unbound) (at self.old) }
+        ensures lent { self.new.out.ghost_name ≡ self.old.out.ghost_name }
+    {
+        self.say(Word::Tick, mode);
+        self.invalid(mode);
     }
-    if lt == 0 {
-        no_name(out, st, mode);
-        return;
-    }
-    if lt <= binder {
-        text::life(out, st, binder - lt, mode);
-        return;
-    }
-    unbound(out, st, mode);
-}
 
-// The lifetime of a generic argument.
-pub fn lifetime(s: &[u8], out: &mut [u8], st: &mut [usize; 4], binder: u64, mode: u8)
-    requires { Going (state_of st.old) }
-    ensures { at out.new st.new ≡ lay mode (g.lifetime s.now (follows mode) binder) (at out.old st.old) }
-{
-    let Num::Value(lt, next) = integer_62(s, st[0]) else {
-        text::invalid(out, st, mode);
-        return;
-    };
-    go(st, next);
-    life(out, st, lt, binder, mode);
-}
-
-// The lifetime of a reference, and a blank; nothing for 0.
-pub fn ref_life(out: &mut [u8], st: &mut [usize; 4], lt: u64, binder: u64, mode: u8)
-    ensures { at out.new st.new ≡ lay mode (g.ref_life (follows mode) binder lt) (at out.old st.old) }
-{
-    if lt == 0 {
-        return;
+    // `'_`
+    #[tactic(auto, using(crate::proofs::LeafLaws::pieces))]
+    fn no_name(&mut self, mode: Option<Mode>)
+        ensures says { at self.new ≡ lay mode (emit (word W.tick ∷ word W.underscore ∷ [])) (at self.old) }
+        ensures lent { self.new.out.ghost_name ≡ self.old.out.ghost_name }
+    {
+        self.say(Word::Tick, mode);
+        self.say(Word::Underscore, mode);
     }
-    life(out, st, lt, binder, mode);
-    text::byte(out, st, b' ', mode);
-}
 
-// A reference's sign, its lifetime and `mut`: whether what it refers to comes behind them.
-pub fn reference(
-    s: &[u8],
-    out: &mut [u8],
-    st: &mut [usize; 4],
-    is_mut: bool,
-    binder: u64,
-    mode: u8,
-) -> bool
-    ensures { given result out.new st.new ≡ lays false mode (g.reference s.now is_mut (follows mode) binder) (at out.old st.old) }
-{
-    text::word(out, st, words::REF, mode);
-    ref_rest(s, out, st, is_mut, binder, mode)
-}
-
-fn ref_rest(
-    s: &[u8],
-    out: &mut [u8],
-    st: &mut [usize; 4],
-    is_mut: bool,
-    binder: u64,
-    mode: u8,
-) -> bool
-    ensures { given result out.new st.new ≡ lays false mode (g.ref_rest s.now is_mut (follows mode) binder) (at out.old st.old) }
-{
-    if st[1] != 0 {
-        text::word(out, st, words::ASK, mode);
-        return false;
+    // A lifetime by its number, looked up unless nothing is printed.
+    #[tactic(auto, using(crate::proofs::LeafLaws::life_laws))]
+    fn life(&mut self, lt: u64, binder: u64, mode: Option<Mode>)
+        ensures says { at self.new ≡ lay mode (g.life_of (follows mode) binder lt) (at self.old) }
+        ensures lent { self.new.out.ghost_name ≡ self.old.out.ghost_name }
+    {
+        if mode.is_none() {
+            return;
+        }
+        if lt == 0 {
+            self.no_name(mode);
+            return;
+        }
+        if lt <= binder {
+            self.say(Life(binder - lt), mode);
+            return;
+        }
+        self.unbound(mode);
     }
-    let Num::Value(lt, behind) = crate::read::lifetime(s, st[0]) else {
-        text::invalid(out, st, mode);
-        return false;
-    };
-    go(st, behind);
-    ref_life(out, st, lt, binder, mode);
-    text::word_if(out, st, is_mut, words::MUT, mode);
-    st[1] != 3
-}
 
-// The lifetime of a trait object; nothing for 0.
-fn end_life(out: &mut [u8], st: &mut [usize; 4], lt: u64, binder: u64, mode: u8)
-    ensures { at out.new st.new ≡ lay mode (g.end_life (follows mode) binder lt) (at out.old st.old) }
-{
-    if lt == 0 {
-        return;
+    // The lifetime of a generic argument.
+    #[tactic(auto, using(crate::proofs::LeafLaws::lifetime_laws))]
+    pub fn lifetime(&mut self, s: &[u8], binder: u64, mode: Option<Mode>)
+        requires { Going (state_of self.old.st) }
+        ensures says { at self.new ≡ lay mode (g.lifetime s.now (follows mode) binder) (at self.old) }
+        ensures lent { self.new.out.ghost_name ≡ self.old.out.ghost_name }
+    {
+        let Some((lt, next)) = integer_62(s, self.st.place) else {
+            self.invalid(mode);
+            return;
+        };
+        self.st.go(next);
+        self.life(lt, binder, mode);
     }
-    text::word(out, st, words::PLUS, mode);
-    life(out, st, lt, binder, mode);
-}
 
-// The end of a trait object: an `L` and a lifetime; without it, and with an error set, the marker (once more).
-pub fn bound(s: &[u8], out: &mut [u8], st: &mut [usize; 4], binder: u64, mode: u8)
-    ensures { at out.new st.new ≡ lay mode (g.bound s.now (follows mode) binder) (at out.old st.old) }
-{
-    if st[1] != 0 {
-        text::invalid(out, st, mode);
-        return;
+    // The lifetime of a reference, and a blank; nothing for 0.
+    #[tactic(auto, using(crate::proofs::LeafLaws::edge_laws))]
+    pub fn ref_life(&mut self, lt: u64, binder: u64, mode: Option<Mode>)
+        ensures says { at self.new ≡ lay mode (g.ref_life (follows mode) binder lt) (at self.old) }
+        ensures lent { self.new.out.ghost_name ≡ self.old.out.ghost_name }
+    {
+        if lt == 0 {
+            return;
+        }
+        self.life(lt, binder, mode);
+        self.say(Letter(b' '), mode);
     }
-    let place = st[0];
-    let behind = eat(s, place, b'L');
-    if behind == place {
-        text::invalid(out, st, mode);
-        return;
-    }
-    go(st, behind);
-    bound_life(s, out, st, binder, mode);
-}
 
-fn bound_life(s: &[u8], out: &mut [u8], st: &mut [usize; 4], binder: u64, mode: u8)
-    requires { Going (state_of st.old) }
-    ensures { at out.new st.new ≡ lay mode (g.bound_life s.now (follows mode) binder) (at out.old st.old) }
-{
-    let Num::Value(lt, next) = integer_62(s, st[0]) else {
-        text::invalid(out, st, mode);
-        return;
-    };
-    go(st, next);
-    end_life(out, st, lt, binder, mode);
+    // A reference's sign, its lifetime and `mut`: whether what it refers to comes behind them.
+    #[tactic(auto, using(crate::proofs::LeafLaws::reference_laws))]
+    pub fn reference(&mut self, s: &[u8], is_mut: bool, binder: u64, mode: Option<Mode>) -> bool
+        ensures says { given result self.new ≡ lays false mode (g.reference s.now is_mut (follows mode) binder) (at self.old) }
+        ensures lent { self.new.out.ghost_name ≡ self.old.out.ghost_name }
+    {
+        self.say(Word::Ref, mode);
+        self.ref_rest(s, is_mut, binder, mode)
+    }
+
+    #[tactic(auto, using(crate::proofs::LeafLaws::reference_laws))]
+    fn ref_rest(&mut self, s: &[u8], is_mut: bool, binder: u64, mode: Option<Mode>) -> bool
+        ensures says { given result self.new ≡ lays false mode (g.ref_rest s.now is_mut (follows mode) binder) (at self.old) }
+        ensures lent { self.new.out.ghost_name ≡ self.old.out.ghost_name }
+    {
+        if self.st.stopped() {
+            self.say(Word::Ask, mode);
+            return false;
+        }
+        let Some((lt, behind)) = crate::read::lifetime(s, self.st.place) else {
+            self.invalid(mode);
+            return false;
+        };
+        self.st.go(behind);
+        self.ref_life(lt, binder, mode);
+        self.word_if(is_mut, Word::Mut, mode);
+        !self.st.is_full()
+    }
+
+    // The lifetime of a trait object; nothing for 0.
+    #[tactic(auto, using(crate::proofs::LeafLaws::edge_laws))]
+    fn end_life(&mut self, lt: u64, binder: u64, mode: Option<Mode>)
+        ensures says { at self.new ≡ lay mode (g.end_life (follows mode) binder lt) (at self.old) }
+        ensures lent { self.new.out.ghost_name ≡ self.old.out.ghost_name }
+    {
+        if lt == 0 {
+            return;
+        }
+        self.say(Word::Plus, mode);
+        self.life(lt, binder, mode);
+    }
+
+    // The end of a trait object: an `L` and a lifetime; without it, and with an error set, the marker (once more).
+    #[tactic(auto, using(crate::proofs::LeafLaws::bound_laws))]
+    pub fn bound(&mut self, s: &[u8], binder: u64, mode: Option<Mode>)
+        ensures says { at self.new ≡ lay mode (g.bound s.now (follows mode) binder) (at self.old) }
+        ensures lent { self.new.out.ghost_name ≡ self.old.out.ghost_name }
+    {
+        if self.st.stopped() {
+            self.invalid(mode);
+            return;
+        }
+        let place = self.st.place;
+        let behind = eat(s, place, b'L');
+        if behind == place {
+            self.invalid(mode);
+            return;
+        }
+        self.st.go(behind);
+        self.bound_life(s, binder, mode);
+    }
+
+    #[tactic(auto, using(crate::proofs::LeafLaws::bound_life_laws))]
+    fn bound_life(&mut self, s: &[u8], binder: u64, mode: Option<Mode>)
+        requires { Going (state_of self.old.st) }
+        ensures says { at self.new ≡ lay mode (g.bound_life s.now (follows mode) binder) (at self.old) }
+        ensures lent { self.new.out.ghost_name ≡ self.old.out.ghost_name }
+    {
+        let Some((lt, next)) = integer_62(s, self.st.place) else {
+            self.invalid(mode);
+            return;
+        };
+        self.st.go(next);
+        self.end_life(lt, binder, mode);
+    }
+
+    // The i-th lifetime of a binder.
+    #[tactic(auto, using(crate::proofs::LeafLaws::one_life_laws))]
+    fn one_life(&mut self, i: u64, count: u64, mode: Option<Mode>)
+        ensures says { at self.new ≡ lay mode (emit (g.one_life count i)) (at self.old) }
+        ensures lent { self.new.out.ghost_name ≡ self.old.out.ghost_name }
+    {
+        let named = held(count, i);
+        if i == 0 {
+            self.say(Life(named), mode);
+            return;
+        }
+        self.say(Word::CommaBlank, mode);
+        self.say(Life(named), mode);
+    }
+
+    // `for<'a, 'b> `: n lifetimes more than the binder count. It stops where the buffer is full.
+    #[tactic(auto, using(crate::proofs::LeafLaws::binder_laws))]
+    pub fn binder(&mut self, n: u64, count: u64, mode: Option<Mode>)
+        ensures says { at self.new ≡ lay mode (emit (g.binder count n)) (at self.old) }
+        ensures lent { self.new.out.ghost_name ≡ self.old.out.ghost_name }
+    {
+        if mode.is_none() {
+            return;
+        }
+        if n == 0 {
+            return;
+        }
+        self.say(Word::For, mode);
+        for i in 0..n {
+            if self.st.is_full() {
+                return;
+            }
+            self.one_life(i, count, mode);
+        }
+        self.say(Word::ForEnd, mode);
+    }
+
+    // `extern "` and what stands there.
+    #[tactic(auto, using(crate::proofs::LeafLaws::pieces))]
+    fn extern_abi<T: Text>(&mut self, abi: T, mode: Option<Mode>)
+        ensures says { at self.new ≡ lay mode (emit (word W.extern ∷ T.piece abi ∷ word W.extern-end ∷ [])) (at self.old) }
+        ensures lent { self.new.out.ghost_name ≡ self.old.out.ghost_name }
+    {
+        self.say(Word::Extern, mode);
+        self.say(abi, mode);
+        self.say(Word::ExternEnd, mode);
+    }
+
+    // The ABI of a function pointer, where it has one.
+    #[tactic(auto, using(crate::proofs::LeafLaws::abi_laws))]
+    fn abi(&mut self, s: &[u8], abi: Option<Abi>, mode: Option<Mode>)
+        requires { AbiWithin s.now abi }
+        ensures says { at self.new ≡ lay mode (emit (g.maybe_abi s.now abi)) (at self.old) }
+        ensures lent { self.new.out.ghost_name ≡ self.old.out.ghost_name }
+    {
+        match abi {
+            Some(Abi::C) => self.extern_abi(Word::C, mode),
+            Some(Abi::Named(a, b)) => self.extern_abi(AbiName(&s[a..b]), mode),
+            None => {}
+        }
+    }
+
+    // What stands before the parameters of a function pointer.
+    #[tactic(auto, using(crate::proofs::LeafLaws::abi_laws))]
+    fn head(&mut self, s: &[u8], head: Head, mode: Option<Mode>)
+        requires { AbiWithin s.now head.abi }
+        ensures says { at self.new ≡ lay mode (emit (g.head_pieces s.now head)) (at self.old) }
+        ensures lent { self.new.out.ghost_name ≡ self.old.out.ghost_name }
+    {
+        self.word_if(head.is_unsafe, Word::Unsafe, mode);
+        self.abi(s, head.abi, mode);
+        self.say(Word::Fn, mode);
+    }
+
+    // The same, read: whether the parameters come behind it.
+    #[tactic(auto, using(crate::proofs::LeafLaws::signature_laws))]
+    pub fn signature(&mut self, s: &[u8], mode: Option<Mode>) -> bool
+        ensures says { given result self.new ≡ lays false mode (g.sig_head s.now) (at self.old) }
+        ensures lent { self.new.out.ghost_name ≡ self.old.out.ghost_name }
+    {
+        if self.st.stopped() {
+            self.say(Word::Ask, mode);
+            return false;
+        }
+        let Some((head, behind)) = crate::read::function(s, self.st.place) else {
+            self.invalid(mode);
+            return false;
+        };
+        self.st.go(behind);
+        self.head(s, head, mode);
+        !self.st.is_full()
+    }
+
+    // An unsigned integer, with its type.
+    #[tactic(auto, using(crate::proofs::LeafLaws::uint_laws))]
+    pub fn uint(&mut self, s: &[u8], tag: u8, mode: Option<Mode>)
+        ensures says { at self.new ≡ lay mode (g.uint s.now tag) (at self.old) }
+        ensures lent { self.new.out.ghost_name ≡ self.old.out.ghost_name }
+    {
+        if self.st.stopped() {
+            self.say(Word::Ask, mode);
+            return;
+        }
+        let place = self.st.place;
+        let Some((hex, next)) = hex_value(s, place) else {
+            self.invalid(mode);
+            return;
+        };
+        self.st.go(next);
+        match hex {
+            Hex::Small(v) => self.small(v, tag, mode),
+            Hex::Big(e) => self.large(s, place, e, tag, mode),
+        }
+    }
+
+    #[tactic(auto, using(crate::proofs::LeafLaws::integer_piece_laws))]
+    fn small(&mut self, v: u64, tag: u8, mode: Option<Mode>)
+        ensures says { at self.new ≡ lay mode (emit (g.small_pieces tag v)) (at self.old) }
+        ensures lent { self.new.out.ghost_name ≡ self.old.out.ghost_name }
+    {
+        self.say(Decimal(v), mode);
+        self.kind(tag, mode);
+    }
+
+    // An integer that does not fit 64 bits: its nibbles as they are.
+    #[tactic(auto, using(crate::proofs::LeafLaws::integer_piece_laws))]
+    fn large(&mut self, s: &[u8], a: usize, e: usize, tag: u8, mode: Option<Mode>)
+        requires { (a ≤ e) × (e ≤ length s.now) }
+        ensures says { at self.new ≡ lay mode (emit (g.large_pieces s.now tag a e)) (at self.old) }
+        ensures lent { self.new.out.ghost_name ≡ self.old.out.ghost_name }
+    {
+        self.say(Word::Hex, mode);
+        self.say(Run(&s[a..e]), mode);
+        self.kind(tag, mode);
+    }
+
+    // A signed integer, with its type.
+    #[tactic(auto, using(crate::proofs::LeafLaws::int_laws))]
+    pub fn int(&mut self, s: &[u8], tag: u8, mode: Option<Mode>)
+        requires { Going (state_of self.old.st) }
+        ensures says { at self.new ≡ lay mode (g.int s.now tag) (at self.old) }
+        ensures lent { self.new.out.ghost_name ≡ self.old.out.ghost_name }
+    {
+        let place = self.st.place;
+        let behind = eat(s, place, b'n');
+        if behind == place {
+            self.uint(s, tag, mode);
+            return;
+        }
+        self.st.go(behind);
+        self.say(Word::Minus, mode);
+        self.uint(s, tag, mode);
+    }
+
+    // An integer, by the letter of its type.
+    #[tactic(auto, using(crate::proofs::LeafLaws::integer_laws))]
+    pub fn integer(&mut self, s: &[u8], mode: Option<Mode>)
+        requires { Going (state_of self.old.st) }
+        ensures says { at self.new ≡ lay mode (part.integer_at s.now) (at self.old) }
+        ensures lent { self.new.out.ghost_name ≡ self.old.out.ghost_name }
+    {
+        let t = look(s, self.st.place);
+        match signed(t.byte) {
+            Some(true) => {
+                self.st.go(t.behind);
+                self.int(s, t.byte, mode);
+            }
+            Some(false) => {
+                self.st.go(t.behind);
+                self.uint(s, t.byte, mode);
+            }
+            None => self.invalid(mode),
+        }
+    }
+
+    #[tactic(auto, using(crate::proofs::LeafLaws::literal_laws))]
+    pub fn boolean(&mut self, s: &[u8], mode: Option<Mode>)
+        requires { Going (state_of self.old.st) }
+        ensures says { at self.new ≡ lay mode (g.boolean s.now) (at self.old) }
+        ensures lent { self.new.out.ghost_name ≡ self.old.out.ghost_name }
+    {
+        let Some((is, next)) = crate::read::boolean(s, self.st.place) else {
+            self.invalid(mode);
+            return;
+        };
+        self.st.go(next);
+        self.say(choose(is, Word::True, Word::False), mode);
+    }
+
+    #[tactic(auto, using(crate::proofs::LeafLaws::literal_laws))]
+    pub fn character(&mut self, s: &[u8], mode: Option<Mode>)
+        requires { Going (state_of self.old.st) }
+        ensures says { at self.new ≡ lay mode (g.character s.now) (at self.old) }
+        ensures lent { self.new.out.ghost_name ≡ self.old.out.ghost_name }
+    {
+        let Some((v, next)) = crate::read::character(s, self.st.place) else {
+            self.invalid(mode);
+            return;
+        };
+        self.st.go(next);
+        self.say(Quoted(v as u32), mode);
+    }
+
+    // A string's characters in quotes.
+    #[tactic(auto, using(crate::proofs::LeafLaws::literal_laws))]
+    pub fn literal(&mut self, s: &[u8], mode: Option<Mode>)
+        ensures says { at self.new ≡ lay mode (g.literal s.now) (at self.old) }
+        ensures lent { self.new.out.ghost_name ≡ self.old.out.ghost_name }
+    {
+        if self.st.stopped() {
+            self.say(Word::Ask, mode);
+            return;
+        }
+        let place = self.st.place;
+        let Some((e, next)) = crate::read::string(s, place) else {
+            self.invalid(mode);
+            return;
+        };
+        self.st.go(next);
+        self.say(
+            text::Literal {
+                nibbles: &s[place..e],
+            },
+            mode,
+        );
+    }
+
+    // A string that no reference stands before.
+    #[tactic(auto, using(crate::proofs::LeafLaws::unsized_laws))]
+    pub fn unsized_literal(&mut self, s: &[u8], mode: Option<Mode>)
+        ensures says { at self.new ≡ lay mode (g.unsized_literal s.now) (at self.old) }
+        ensures lent { self.new.out.ghost_name ≡ self.old.out.ghost_name }
+    {
+        self.say(Word::Star, mode);
+        self.literal(s, mode);
+    }
 }
 
 // The sum, held at the largest number.
 pub fn held(a: u64, b: u64) -> u64
     ensures { result ≡ g.held (a + b) }
 {
-    if b > 0xffff_ffff_ffff_ffff - a {
-        return 0xffff_ffff_ffff_ffff;
+    a.saturating_add(b)
+}
+
+// Whether an integer's type is signed, by its letter.
+fn signed(letter: u8) -> Option<bool>
+    ensures { result ≡ letters.signed_by letter }
+{
+    match letter {
+        b'h' | b't' | b'm' | b'y' | b'o' | b'j' => Some(false),
+        b'a' | b's' | b'l' | b'x' | b'n' | b'i' => Some(true),
+        _ => None,
     }
-    a + b
-}
-
-// The i-th lifetime of a binder.
-fn one_life(out: &mut [u8], st: &mut [usize; 4], i: u64, count: u64, mode: u8)
-    ensures { at out.new st.new ≡ lay mode (emit (g.one_life count i)) (at out.old st.old) }
-{
-    let named = held(count, i);
-    if i == 0 {
-        text::life(out, st, named, mode);
-        return;
-    }
-    text::word(out, st, words::COMMA_BLANK, mode);
-    text::life(out, st, named, mode);
-}
-
-// `for<'a, 'b> `: n lifetimes more than the binder count. It stops where the buffer is full.
-pub fn binder(out: &mut [u8], st: &mut [usize; 4], n: u64, count: u64, mode: u8)
-    ensures { at out.new st.new ≡ lay mode (emit (g.binder count n)) (at out.old st.old) }
-{
-    if mode == 0 {
-        return;
-    }
-    if n == 0 {
-        return;
-    }
-    text::word(out, st, words::FOR, mode);
-    let mut i = 0;
-    while i < n {
-        if st[1] == 3 {
-            return;
-        }
-        one_life(out, st, i, count, mode);
-        i += 1;
-    }
-    text::word(out, st, words::FOR_END, mode);
-}
-
-fn named_abi(s: &[u8], out: &mut [u8], st: &mut [usize; 4], a: usize, b: usize, mode: u8)
-    requires { (a ≤ b) × (b ≤ length s.now) }
-    ensures { at out.new st.new ≡ lay mode (emit (g.abi_pieces s.now a b)) (at out.old st.old) }
-{
-    text::word(out, st, words::EXTERN, mode);
-    text::abi(out, st, &s[a..b], mode);
-    text::word(out, st, words::EXTERN_END, mode);
-}
-
-fn c_abi(out: &mut [u8], st: &mut [usize; 4], mode: u8)
-    ensures { at out.new st.new ≡ lay mode (emit (word W.extern ∷ word W.c ∷ word W.extern-end ∷ [])) (at out.old st.old) }
-{
-    text::word(out, st, words::EXTERN, mode);
-    text::word(out, st, words::C, mode);
-    text::word(out, st, words::EXTERN_END, mode);
-}
-
-// The ABI of a function pointer: 0 none, 1 `C`, 2 the name between two places.
-fn abi(s: &[u8], out: &mut [u8], st: &mut [usize; 4], which: u8, a: usize, b: usize, mode: u8)
-    requires { (a ≤ b) × (b ≤ length s.now) }
-    ensures { at out.new st.new ≡ lay mode (emit (g.which_abi s.now which a b)) (at out.old st.old) }
-{
-    if which == 0 {
-        return;
-    }
-    if which == 1 {
-        c_abi(out, st, mode);
-        return;
-    }
-    named_abi(s, out, st, a, b, mode);
-}
-
-// What stands before the parameters of a function pointer.
-fn head(
-    s: &[u8],
-    out: &mut [u8],
-    st: &mut [usize; 4],
-    is_unsafe: bool,
-    which: u8,
-    a: usize,
-    b: usize,
-    mode: u8,
-)
-    requires { (a ≤ b) × (b ≤ length s.now) }
-    ensures { at out.new st.new ≡ lay mode (emit (g.head_pieces s.now is_unsafe which a b)) (at out.old st.old) }
-{
-    text::word_if(out, st, is_unsafe, words::UNSAFE, mode);
-    abi(s, out, st, which, a, b, mode);
-    text::word(out, st, words::FN, mode);
-}
-
-// The same, read: whether the parameters come behind it.
-pub fn signature(s: &[u8], out: &mut [u8], st: &mut [usize; 4], mode: u8) -> bool
-    ensures { given result out.new st.new ≡ lays false mode (g.sig_head s.now) (at out.old st.old) }
-{
-    if st[1] != 0 {
-        text::word(out, st, words::ASK, mode);
-        return false;
-    }
-    let Head::Of(is_unsafe, which, a, b, behind) = crate::read::function(s, st[0]) else {
-        text::invalid(out, st, mode);
-        return false;
-    };
-    go(st, behind);
-    head(s, out, st, is_unsafe, which, a, b, mode);
-    st[1] != 3
-}
-
-// An unsigned integer, with its type.
-pub fn uint(s: &[u8], out: &mut [u8], st: &mut [usize; 4], tag: u8, mode: u8)
-    ensures { at out.new st.new ≡ lay mode (g.uint s.now tag) (at out.old st.old) }
-{
-    if st[1] != 0 {
-        text::word(out, st, words::ASK, mode);
-        return;
-    }
-    let place = st[0];
-    match hex_value(s, place) {
-        Hex::Small(v, next) => {
-            go(st, next);
-            small(out, st, v, tag, mode);
-        }
-        Hex::Big(e, next) => {
-            go(st, next);
-            large(s, out, st, place, e, tag, mode);
-        }
-        Hex::Invalid => text::invalid(out, st, mode),
-    }
-}
-
-fn small(out: &mut [u8], st: &mut [usize; 4], v: u64, tag: u8, mode: u8)
-    ensures { at out.new st.new ≡ lay mode (emit (g.small_pieces tag v)) (at out.old st.old) }
-{
-    text::number(out, st, v, mode);
-    text::kind(out, st, tag, mode);
-}
-
-// An integer that does not fit 64 bits: its nibbles as they are.
-fn large(s: &[u8], out: &mut [u8], st: &mut [usize; 4], a: usize, e: usize, tag: u8, mode: u8)
-    requires { (a ≤ e) × (e ≤ length s.now) }
-    ensures { at out.new st.new ≡ lay mode (emit (g.large_pieces s.now tag a e)) (at out.old st.old) }
-{
-    text::word(out, st, words::HEX, mode);
-    text::run(out, st, &s[a..e], mode);
-    text::kind(out, st, tag, mode);
-}
-
-// A signed integer, with its type.
-pub fn int(s: &[u8], out: &mut [u8], st: &mut [usize; 4], tag: u8, mode: u8)
-    requires { Going (state_of st.old) }
-    ensures { at out.new st.new ≡ lay mode (g.int s.now tag) (at out.old st.old) }
-{
-    let place = st[0];
-    let behind = eat(s, place, b'n');
-    if behind == place {
-        uint(s, out, st, tag, mode);
-        return;
-    }
-    go(st, behind);
-    text::word(out, st, words::MINUS, mode);
-    uint(s, out, st, tag, mode);
-}
-
-fn is_unsigned(c: u8) -> bool
-    ensures { result ≡ letters.is_unsigned c }
-{
-    match c {
-        b'h' | b't' | b'm' | b'y' | b'o' | b'j' => true,
-        _ => false,
-    }
-}
-
-fn is_signed(c: u8) -> bool
-    ensures { result ≡ letters.is_signed c }
-{
-    match c {
-        b'a' | b's' | b'l' | b'x' | b'n' | b'i' => true,
-        _ => false,
-    }
-}
-
-// An integer, by the letter of its type.
-pub fn integer(s: &[u8], out: &mut [u8], st: &mut [usize; 4], mode: u8)
-    requires { Going (state_of st.old) }
-    ensures { at out.new st.new ≡ lay mode (part.integer_at s.now) (at out.old st.old) }
-{
-    let t = look(s, st[0]);
-    let letter = t.byte;
-    let unsigned = is_unsigned(letter);
-    if unsigned {
-        go(st, t.behind);
-        uint(s, out, st, letter, mode);
-        return;
-    }
-    let signed = is_signed(letter);
-    if signed {
-        go(st, t.behind);
-        int(s, out, st, letter, mode);
-        return;
-    }
-    text::invalid(out, st, mode);
-}
-
-pub fn boolean(s: &[u8], out: &mut [u8], st: &mut [usize; 4], mode: u8)
-    requires { Going (state_of st.old) }
-    ensures { at out.new st.new ≡ lay mode (g.boolean s.now) (at out.old st.old) }
-{
-    let crate::read::Flag::Of(is, next) = crate::read::boolean(s, st[0]) else {
-        text::invalid(out, st, mode);
-        return;
-    };
-    go(st, next);
-    text::word(out, st, bool_word(is), mode);
-}
-
-fn bool_word(is: bool) -> usize
-    ensures { result ≡ if-then is W.true W.false }
-{
-    if is { words::TRUE } else { words::FALSE }
-}
-
-pub fn character(s: &[u8], out: &mut [u8], st: &mut [usize; 4], mode: u8)
-    requires { Going (state_of st.old) }
-    ensures { at out.new st.new ≡ lay mode (g.character s.now) (at out.old st.old) }
-{
-    let Num::Value(v, next) = crate::read::character(s, st[0]) else {
-        text::invalid(out, st, mode);
-        return;
-    };
-    go(st, next);
-    text::quoted_char(out, st, v as u32, mode);
-}
-
-// A string's characters in quotes.
-pub fn literal(s: &[u8], out: &mut [u8], st: &mut [usize; 4], mode: u8)
-    ensures { at out.new st.new ≡ lay mode (g.literal s.now) (at out.old st.old) }
-{
-    if st[1] != 0 {
-        text::word(out, st, words::ASK, mode);
-        return;
-    }
-    let place = st[0];
-    let Literal::Of(e, next) = crate::read::string(s, place) else {
-        text::invalid(out, st, mode);
-        return;
-    };
-    go(st, next);
-    text::quoted_text(out, st, &s[place..e], mode);
-}
-
-// A string that no reference stands before.
-pub fn unsized_literal(s: &[u8], out: &mut [u8], st: &mut [usize; 4], mode: u8)
-    ensures { at out.new st.new ≡ lay mode (g.unsized_literal s.now) (at out.old st.old) }
-{
-    text::word(out, st, words::STAR, mode);
-    literal(s, out, st, mode);
 }

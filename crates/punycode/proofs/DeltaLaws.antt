@@ -1,4 +1,5 @@
 -- A delta that is being read: what a loop that takes a digit a turn keeps, and why nothing wraps. Assumes nothing.
+use Rattle.std.specs.Prelude.{Option, Some, None}
 use mathlib.Core.Path.{◌≡◌, refl, sym, ap, ◌∙◌}
 use mathlib.Core.List.{List}
 use Prim.Native.Nat.{ℕ, ◌+◌, ◌-◌, ◌*◌, ◌≤◌, ◌<◌}
@@ -11,9 +12,8 @@ use mir.Val.{Fits}
 use mir.Syntax.{w64}
 use lib.ListN.{length, get_or, drop}
 use Rattle.punycode.specs.Decode.{base, puny_digit, threshold_of, Delta, read, unread, plus, delta_of}
-use Rattle.punycode.specs.Steps.{delta_at, limit, limited, as_delta}
-use Rattle.punycode.specs.declared.delta.Read.TheVariants.{Value, NoValue}
-use Rattle.punycode.proofs.DigitLaws.{threshold-range, plus-zero, plus-plus, delta-past, delta-bad, delta-last, delta-more}
+use Rattle.punycode.specs.Steps.{delta_at, limit, limited, as_digit, as_delta}
+use Rattle.punycode.proofs.DigitLaws.{Digit, digit-is, no-digit, threshold-range, threshold-below, plus-zero, plus-plus, delta-past, delta-bad, delta-last, delta-more}
 
 -- past the limit, whatever follows
 limited-read : (x : ℕ) (rest : List ℕ) → limit ≤ x → limited (read x rest) ≡ unread
@@ -38,18 +38,22 @@ pub start : (bias : ℕ) (s : List ℕ) (at : ℕ) → Reading bias s at 0 1 36 
 start bias s at = record { number = plus-zero _; small = omega arith; some = omega arith; weight = omega arith; steps = omega arith }
 
 module _ {bias : ℕ} {s : List ℕ} {at x w k i : ℕ} (r : Reading bias s at x w k i) where
-  pub past : length s ≤ i → as_delta s NoValue ≡ limited (delta_at bias s at)
+  pub past : length s ≤ i → as_delta s None ≡ limited (delta_at bias s at)
   unfolding as_delta limited
   past h = rw (← r.number, delta-past bias k w s i h)
 
-  module _ (h : i < length s) {d : ℕ} (counts : d ≡ puny_digit (get_or s i 0)) where
-    pub bad : base ≤ d → as_delta s NoValue ≡ limited (delta_at bias s at)
+  -- g is what `digit` answered
+  module _ (h : i < length s) {g : Option ℕ} (judged : g ≡ as_digit (puny_digit (get_or s i 0))) where
+    pub bad : g ≡ None → as_delta s None ≡ limited (delta_at bias s at)
     unfolding as_delta limited
-    bad e = rw (← r.number, delta-bad bias k w s i h (omega arith))
+    bad e = rw (← r.number, delta-bad bias k w s i h (no-digit (get_or s i 0) judged e))
 
-    module _ (good : d < base) where
+    module _ {d : ℕ} (known : g ≡ Some d) where
+      seen : Digit (get_or s i 0) d
+      seen = digit-is (get_or s i 0) judged known
+
       product : d * w ≤ 35 * w
-      product = mul-le-mul_right w (omega arith)
+      product = mul-le-mul_right w (omega (arith, seen.good))
 
       pub product-fits : Fits w64 (d * w)
       product-fits = omega (arith, product, r.weight, r.small)
@@ -59,13 +63,13 @@ module _ {bias : ℕ} {s : List ℕ} {at x w k i : ℕ} (r : Reading bias s at x
 
       -- the whole, where this digit ends the number, and where it does not
       ended : d < threshold_of bias k → read (x + d * w) (drop (i + 1) s) ≡ delta_at bias s at
-      ended l = sym (ap (plus x) (delta-last bias k w s i h counts good l)) ∙ r.number
+      ended l = sym (ap (plus x) (delta-last bias k w s i h seen.counts seen.good l)) ∙ r.number
 
       turned : threshold_of bias k ≤ d → plus (x + d * w) (delta_of bias (k + base) (w * (base - threshold_of bias k)) (drop (i + 1) s)) ≡ delta_at bias s at
       turned l =
-          sym (plus-plus x (d * w) (delta_of bias (k + base) (w * (base - threshold_of bias k)) (drop (i + 1) s))) ∙ sym (ap (plus x) (delta-more bias k w s i h counts good l)) ∙ r.number
+          sym (plus-plus x (d * w) (delta_of bias (k + base) (w * (base - threshold_of bias k)) (drop (i + 1) s))) ∙ sym (ap (plus x) (delta-more bias k w s i h seen.counts seen.good l)) ∙ r.number
 
-      pub over : limit ≤ x + d * w → as_delta s NoValue ≡ limited (delta_at bias s at)
+      pub over : limit ≤ x + d * w → as_delta s None ≡ limited (delta_at bias s at)
       unfolding as_delta
       over e = elim (dec_lt d (threshold_of bias k)) [
         | yes l ↦ rw (← ended l, limited-read (x + d * w) (drop (i + 1) s) e)
@@ -73,7 +77,7 @@ module _ {bias : ℕ} {s : List ℕ} {at x w k i : ℕ} (r : Reading bias s at x
       ]
 
       module _ (fits : x + d * w < limit) {t : ℕ} (told : t ≡ threshold_of bias k) where
-        pub last : d < t → as_delta s (Value (x + d * w) (i + 1)) ≡ limited (delta_at bias s at)
+        pub last : d < t → as_delta s (Some (x + d * w, i + 1)) ≡ limited (delta_at bias s at)
         unfolding as_delta limited
         last e = rw (← ended (omega arith)) (simp (lt-ltb (x + d * w) limit fits))
 
@@ -83,6 +87,7 @@ module _ {bias : ℕ} {s : List ℕ} {at x w k i : ℕ} (r : Reading bias s at x
         pub next : t ≤ d → Reading bias s at (x + d * w) (w * (36 - t)) (k + 36) (i + 1)
         next e =
             let range = threshold-range bias k in
+            let good = seen.good in
             let most : w * (36 - t) ≤ w * 35 = mul-le-mul_left w (omega arith) in
             let least : w * 10 ≤ w * (36 - t) = mul-le-mul_left w (omega arith) in
             let once : 1 * w ≤ d * w = mul-le-mul_right w (omega arith) in
@@ -94,4 +99,4 @@ module _ {bias : ℕ} {s : List ℕ} {at x w k i : ℕ} (r : Reading bias s at x
               steps = omega (arith, r.steps, r.some);
             }
 
-pub ruleset read-laws = (start, past, bad, product-fits, sum_fits, over, last, weight-fits, next, rules)
+pub ruleset read_laws = (start, past, bad, product-fits, sum_fits, over, last, weight-fits, threshold-below, next, rules)

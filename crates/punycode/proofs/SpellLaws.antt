@@ -1,21 +1,23 @@
 -- The loop over the code, from turn to turn, and the whole identifier. Assumes nothing.
+use Rattle.std.specs.Prelude.{Option, Some, None, Result, Ok, Err, min, slice_range}
 use mathlib.Core.Path.{◌≡◌, refl, sym, ap, ◌∙◌}
 use mathlib.Core.List.{List, []}
 use Prim.Native.Nat.{ℕ, zero, suc, ◌+◌, ◌-◌, ◌^◌, ◌≤◌, ◌<◌}
+use native.Mathlib.Nat.{sub-zero}
 use native.Mathlib.Omega.{arith}
 use borrow.Author.Rules.{rules}
 use borrow.Author.Tests.{lt-ltb, le-ltb}
 use mir.Val.{Fits}
 use mir.Syntax.{w32, w64}
-use lib.ListN.{length, take, drop, length-take, take-append-drop, drop_of_length-le}
-use lib.Seq.{drop-cons, length-take-le, take-append_seam}
+use Rattle.std.proofs.lemmas.List.{take_min}
+use lib.ListN.{length, take, drop, drop_of_length-le}
+use lib.Seq.{drop-cons, length-take-le}
 use Rattle.punycode.specs.Answer.{most, decoded, shown}
 use Rattle.punycode.specs.Decode.{initial-n, initial-bias, Turn, turn, turn_of, insert_at, Spelt, spelt, long, More, go_on, round_of, rounds}
-use Rattle.punycode.specs.Steps.{delta_at, bias-limit, as_turn}
-use Rattle.punycode.specs.declared.Decoded.{Decoded}
-use Rattle.punycode.specs.declared.Decoded.TheVariants.{Chars, Long, Broken}
+use Rattle.punycode.specs.Steps.{delta_at, as_turn}
+use Rattle.punycode.specs.declared.DecodeError.{DecodeError}
+use Rattle.punycode.specs.declared.DecodeError.TheVariants.{Long, Broken}
 use Rattle.punycode.specs.declared.spell.Step.{Step}
-use Rattle.punycode.specs.declared.spell.Step.TheVariants.{Char, NoChar}
 use Rattle.punycode.proofs.TurnLaws.{turn_small}
 
 -- ---- the loop as it is defined, a turn on
@@ -45,84 +47,77 @@ pub record Spelling (s places : List ℕ) (whole : Spelt) (n i bias at len : ℕ
   pub few : len ≤ most
   pub n-small : n < 2 ^ 32
   pub i-small : i < 2 ^ 32
-  pub bias-small : bias < bias-limit
 
 module _ {s places : List ℕ} {whole : Spelt} {n i bias at len : ℕ} (r : Spelling s places whole n i bias at len) where
   count : length (take len places) ≡ len
   count = length-take-le len places (omega (arith, r.all, r.few))
 
-  pub spell-end : length s ≤ at → shown (Chars len) places ≡ whole
+  pub spell-end : length s ≤ at → shown (Ok len) places ≡ whole
   unfolding shown
   spell-end h = sym (rounds-end (most - len) n i bias (take len places)) ∙ rw (drop_of_length-le s h) at r.left
 
   -- st is what `next_char` answered
-  module _ (h : at < length s) (st : Step) (got : as_turn s st ≡ turn_of n i (len + 1) (delta_at bias s at)) where
+  module _ (h : at < length s) (st : Option Step) (got : as_turn s st ≡ turn_of n i (len + 1) (delta_at bias s at)) where
     found : as_turn s st ≡ turn_of n i (length (take len places) + 1) (delta_at bias s at)
     found = rw count got
 
-    pub spell-broken : st ≡ NoChar → shown Broken places ≡ whole
+    pub spell-broken : st ≡ None → shown (Err Broken) places ≡ whole
     unfolding shown as_turn
     spell-broken e = sym (rounds-turn n i bias (take len places) s at h (most - len) (rw e at found)) ∙ r.left
 
-    module _ {m j b next : ℕ} (e : st ≡ Char m j b next) where
-      known : turn m j b (drop next s) ≡ turn_of n i (len + 1) (delta_at bias s at)
+    module _ {t : Step} (e : st ≡ Some t) where
+      known : turn t.value t.place t.bias (drop t.next s) ≡ turn_of n i (len + 1) (delta_at bias s at)
       unfolding as_turn
       known = rw e at got
 
-      pub spell-long : most ≤ len → shown Long places ≡ whole
+      pub spell-long : most ≤ len → shown (Err Long) places ≡ whole
       unfolding shown as_turn
       spell-long k =
           let full : most - len ≡ 0 = omega arith in
           sym (rounds-turn n i bias (take len places) s at h 0 (rw e at found)) ∙ rw full at r.left
 
-      small : (m < 0x110000) × (j < len + 1) × (b < bias-limit)
+      small : (t.value < 0x110000) × (t.place < len + 1)
       small = turn_small n i (len + 1) (omega arith) (omega (arith, r.few)) (delta_at bias s at) known
 
-      pub place-within : j ≤ len
+      pub place-within : t.place ≤ len
       place-within = omega (arith, small)
 
-      pub place-fits : Fits w64 (j + 1)
+      pub place-fits : Fits w64 (t.place + 1)
       place-fits = omega (arith, place-within, r.few)
 
-      pub value-fits : Fits w32 m
+      pub value-fits : Fits w32 t.value
       value-fits = omega (arith, small)
 
-      pub spell_next : {later : List ℕ} → len < most → length later ≡ length places → take (len + 1) later ≡ insert_at j m (take len places)
-          → Spelling s later whole m (j + 1) b next (len + 1)
+      pub spell_next : {later : List ℕ} → len < most → length later ≡ most → take (len + 1) later ≡ insert_at t.place t.value (take len places)
+          → Spelling s later whole t.value (t.place + 1) t.bias t.next (len + 1)
       unfolding as_turn
       spell_next k q p =
           let z = small in
           let room : most - len ≡ suc (most - (len + 1)) = omega arith in
           record {
             left = rw p (sym (rounds-turn n i bias (take len places) s at h (suc (most - (len + 1))) (rw e at found)) ∙ rw room at r.left);
-            all = q ∙ r.all;
+            all = q;
             few = omega arith;
             n-small = omega arith;
             i-small = omega (arith, place-within);
-            bias-small = omega arith;
           }
 
-pub ruleset spell-laws = (spell-end, spell-broken, spell-long, place-fits, value-fits, rules)
+pub ruleset spell_laws = (spell-end, spell-broken, spell-long, place-fits, place-within, value-fits, spell_next, rules)
 
--- ---- the whole; n is how many basic characters there are
-module _ (ascii code : ℕ) (s : List ℕ) {n : ℕ} (counted : n ≡ length (take ascii s)) where
-  pub decode-long : (places : List ℕ) → most < n → shown Long places ≡ decoded ascii code s
+-- ---- the whole; n is how many basic characters there are, and text these
+module _ (ascii code : ℕ) (s text : List ℕ) (cut : text ≡ slice_range s 0 (min ascii (length s))) where
+  basic : text ≡ take ascii s
+  basic = cut ∙ simp sub-zero (take_min ascii s)
+
+  pub decode-long : (places : List ℕ) → most < length text → shown (Err Long) places ≡ decoded ascii code s
   unfolding shown decoded
-  decode-long places h = simp (lt-ltb most (length (take ascii s)) (omega arith))
+  decode-long places h = simp (lt-ltb most (length (take ascii s)) (omega (arith, ap length basic)))
 
-  pub count-within : n ≤ length s
-  count-within = omega (arith, length-take ascii s)
-
-  basic : take n s ≡ take ascii s
-  basic = rw counted (ap (take (length (take ascii s))) (sym (take-append-drop ascii s)) ∙ take-append_seam (take ascii s) (drop ascii s))
-
-  pub decode-rest : (copied left : List ℕ) (r : Decoded) → n ≤ most → take n copied ≡ take n s
-      → shown r left ≡ rounds (most - n) initial-n 0 initial-bias (take n copied) (drop code s) → shown r left ≡ decoded ascii code s
+  pub decode-rest : (copied left : List ℕ) (r : Result ℕ DecodeError) → length text ≤ most → take (length text) copied ≡ text
+      → shown r left ≡ rounds (most - length text) initial-n 0 initial-bias (take (length text) copied) (drop code s) → shown r left ≡ decoded ascii code s
   unfolding decoded
   decode-rest copied left r h p q =
-      rw (le-ltb most (length (take ascii s)) (omega arith))
-      (q
-      ∙ ap (λ (l : List ℕ). rounds (most - n) initial-n 0 initial-bias l (drop code s)) (p ∙ basic)
-      ∙ ap (λ (k : ℕ). rounds (most - k) initial-n 0 initial-bias (take ascii s) (drop code s)) counted)
+      rw (le-ltb most (length (take ascii s)) (omega (arith, ap length basic)))
+      (rw p at q ∙ ap (λ (l : List ℕ). rounds (most - length l) initial-n 0 initial-bias l (drop code s)) basic)
 
-pub ruleset decode-laws = (decode-long, count-within, decode-rest, rules)
+pub ruleset decode_laws = (decode-long, decode-rest, rules)

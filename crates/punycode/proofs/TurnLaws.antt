@@ -1,4 +1,5 @@
 -- A turn of the loop over the code: the limit on a delta refuses nothing, a turn's numbers stay small, and what the next character is. Assumes nothing.
+use Rattle.std.specs.Prelude.{Option, Some, None}
 use mathlib.Core.Path.{◌≡◌, refl, ap, ◌∙◌}
 use mathlib.Core.Bool.{Bool, true, false}
 use mathlib.Core.List.{List}
@@ -15,11 +16,7 @@ use Rattle.parser.specs.Digits.{if-then}
 use Rattle.parser.specs.Scalar.{is_scalar}
 use Rattle.punycode.specs.Answer.{most}
 use Rattle.punycode.specs.Decode.{Delta, read, unread, adapted, turn, no_turn, turn_of}
-use Rattle.punycode.specs.Steps.{delta_at, limit, bias-limit, limited, as_delta, as_turn}
-use Rattle.punycode.specs.declared.delta.Read.{Read}
-use Rattle.punycode.specs.declared.delta.Read.TheVariants.{Value, NoValue}
-use Rattle.punycode.specs.declared.spell.Step.TheVariants.{Char, NoChar}
-use Rattle.punycode.proofs.AdaptLaws.{adapted-small}
+use Rattle.punycode.specs.Steps.{delta_at, limit, limited, as_delta, as_turn}
 
 -- ---- the limit
 scalar-over : (v : ℕ) → 0x110000 ≤ v → is_scalar v ≡ false
@@ -51,9 +48,6 @@ module _ (n i len : ℕ) (some : 1 ≤ len) (few : len ≤ most + 1) where
       let q : 0x110000 ≤ (i + v) / len = (le-div_iff_mul-le some).1 (omega arith) in
       scalar-over (n + (i + v) / len) (omega arith)
 
-  below-limit : (v : ℕ) → is_scalar (n + (i + v) / len) ≡ true → v < limit
-  below-limit v h = elim (dec_lt v limit) [ yes l ↦ l | no l ↦ absurd (clash h (past-scalars v (omega arith))) ]
-
   -- The 64-bit law: the code stops reading a delta at the limit, well before anything wraps, and a turn over whole numbers with a
   -- delta that large has no character. So no delta that whole numbers accept is refused because it is too large.
   pub limit-refuses-nothing : (v : Delta) → turn_of n i len (limited v) ≡ turn_of n i len v
@@ -65,49 +59,48 @@ module _ (n i len : ℕ) (some : 1 ≤ len) (few : len ≤ most + 1) where
   ]
 
   -- ---- how large a turn's numbers are
-  pub turn_small : (v : Delta) {m j b : ℕ} {rest : List ℕ} → turn m j b rest ≡ turn_of n i len v → (m < 0x110000) × (j < len) × (b < bias-limit)
+  pub turn_small : (v : Delta) {m j b : ℕ} {rest : List ℕ} → turn m j b rest ≡ turn_of n i len v → (m < 0x110000) × (j < len)
   unfolding turn_of
   turn_small unread e = absurd (let z : ◌≡◌ {A = ℕ} 0 1 = cc in omega arith)
   turn_small (read v more) {m} {j} {b} {rest} e = go (is_scalar (n + (i + v) / len)) refl e
     where
       go : (t : Bool) → is_scalar (n + (i + v) / len) ≡ t
           → turn m j b rest ≡ if-then t (turn (n + (i + v) / len) ((i + v) % len) (adapted v len (eqb i 0)) more) no_turn
-          → (m < 0x110000) × (j < len) × (b < bias-limit)
+          → (m < 0x110000) × (j < len)
       go true h q =
           let p0 : m ≡ n + (i + v) / len = cc in
           let p1 : j ≡ (i + v) % len = cc in
-          let p2 : b ≡ adapted v len (eqb i 0) = cc in
-          (omega (arith, scalar-small (n + (i + v) / len) h), omega (arith, mod-lt (i + v) some), omega (arith, adapted-small v len (eqb i 0) (below-limit v h)))
+          (omega (arith, scalar-small (n + (i + v) / len) h), omega (arith, mod-lt (i + v) some))
       go false h q = absurd (let z : ◌≡◌ {A = ℕ} 0 1 = cc in omega arith)
 
 -- ---- what `next_char` is left to show; r is what `read_delta` answered
-module _ (s : List ℕ) (at n i bias len : ℕ) (some : 1 ≤ len) (few : len ≤ most + 1) (r : Read) (got : as_delta s r ≡ limited (delta_at bias s at)) where
+module _ (s : List ℕ) (at n i bias len : ℕ) (some : 1 ≤ len) (few : len ≤ most + 1) (r : Option (ℕ × ℕ)) (got : as_delta s r ≡ limited (delta_at bias s at)) where
   turned : turn_of n i len (as_delta s r) ≡ turn_of n i len (delta_at bias s at)
   turned = ap (turn_of n i len) got ∙ limit-refuses-nothing n i len some few (delta_at bias s at)
 
-  pub turn-none : r ≡ NoValue → as_turn s NoChar ≡ turn_of n i len (delta_at bias s at)
+  pub turn-none : r ≡ None → as_turn s None ≡ turn_of n i len (delta_at bias s at)
   unfolding turn_of as_turn as_delta
   turn-none e = rw e at turned
 
-  module _ {v next : ℕ} (known : r ≡ Value v next) where
+  module _ {v next : ℕ} (known : r ≡ Some (v, next)) where
     pub value-small : v < limit
     unfolding as_delta
     value-small = limited-small (delta_at bias s at) (rw known at got)
 
-    module _ {g : Bool} (told : g ≡ is_scalar (n + (i + v) / len)) where
-      pub turn-bad : g ≡ false → as_turn s NoChar ≡ turn_of n i len (delta_at bias s at)
-      unfolding turn_of as_turn as_delta
-      turn-bad e = rw (known, ← told, e) at turned
+    pub turn-bad : false ≡ is_scalar (n + (i + v) / len) → as_turn s None ≡ turn_of n i len (delta_at bias s at)
+    unfolding turn_of as_turn as_delta
+    turn-bad e = rw (known, ← e) at turned
 
-      pub turn-good : {b : ℕ} → g ≡ true → b ≡ adapted v len (eqb i 0) → as_turn s (Char (n + (i + v) / len) ((i + v) % len) b next) ≡ turn_of n i len (delta_at bias s at)
-      unfolding turn_of as_turn as_delta
-      turn-good e q = rw q (rw (known, ← told, e) at turned)
+    pub turn-good : {b : ℕ} → true ≡ is_scalar (n + (i + v) / len) → b ≡ adapted v len (eqb i 0)
+        → as_turn s (Some (record { value = n + (i + v) / len; place = (i + v) % len; bias = b; next = next })) ≡ turn_of n i len (delta_at bias s at)
+    unfolding turn_of as_turn as_delta
+    turn-good e q = rw q (rw (known, ← e) at turned)
 
-  module _ {v next : ℕ} (known : r ≡ Value v next) (i-small : i < 2 ^ 32) where
+  module _ {v next : ℕ} (known : r ≡ Some (v, next)) (i-small : i < 2 ^ 32) where
     pub sum_fits : Fits w64 (i + v)
     sum_fits = omega (arith, value-small known)
 
     pub value-fits : n < 2 ^ 32 → Fits w64 (n + (i + v) / len)
     value-fits h = omega (arith, value-small known, div-le_self (i + v) len)
 
-pub ruleset turn-laws = (turn-none, turn-bad, turn-good, value-small, sum_fits, value-fits, rules)
+pub ruleset turn_laws = (turn-none, turn-bad, turn-good, value-small, sum_fits, value-fits, rules)

@@ -1,9 +1,9 @@
 -- What `decode` answers. Assumes nothing: these are definitions.
-use Rattle.std.specs.Prelude.{List, ℕ, ◌-◌, ltb, length, take, drop}
+use Rattle.std.specs.Prelude.{Result, Ok, Err, List, ℕ, ◌-◌, ltb, length, take, drop}
 use Rattle.parser.specs.Digits.{if-then}
 use Rattle.punycode.specs.Decode.{initial-n, initial-bias, Spelt, spelt, long, broken, rounds}
-use Rattle.punycode.specs.declared.Decoded.{Decoded}
-use Rattle.punycode.specs.declared.Decoded.TheVariants.{Chars, Long, Broken}
+use Rattle.punycode.specs.declared.DecodeError.{DecodeError}
+use Rattle.punycode.specs.declared.DecodeError.TheVariants.{Long, Broken}
 
 -- document 01: so many characters at most
 abbrev pub most : ℕ
@@ -16,13 +16,12 @@ decoded ascii code name =
     if-then (ltb most (length basic)) long (rounds (most - length basic) initial-n 0 initial-bias basic (drop code name))
 
 -- an answer, with the places that were lent as they are left
-unfoldable pub shown : Decoded → List ℕ → Spelt
-shown (Chars n) places = spelt (take n places)
-shown Long places = long
-shown Broken places = broken
+unfoldable pub shown : Result ℕ DecodeError → List ℕ → Spelt
+shown (Ok n) places = spelt (take n places)
+shown (Err Long) places = long
+shown (Err Broken) places = broken
 
 -- how many characters an answer has
-abbrev pub count_of : Decoded → ℕ
-count_of (Chars n) = n
-count_of Long = 0
-count_of Broken = 0
+abbrev pub count_of : Result ℕ DecodeError → ℕ
+count_of (Ok n) = n
+count_of (Err e) = 0

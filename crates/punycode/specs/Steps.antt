@@ -1,11 +1,12 @@
 -- What the steps of `decode` answer, as parts of the decoding procedure. Assumes nothing: these are definitions.
-use Rattle.std.specs.Prelude.{List, ℕ, ◌^◌, ltb, drop}
+use Rattle.std.specs.Prelude.{Option, Some, None, List, ℕ, ◌^◌, ltb, drop}
 use Rattle.parser.specs.Digits.{if-then}
 use Rattle.punycode.specs.Decode.{base, delta_of, Delta, read, unread, Turn, turn, no_turn}
-use Rattle.punycode.specs.declared.delta.Read.{Read}
-use Rattle.punycode.specs.declared.delta.Read.TheVariants.{Value, NoValue}
 use Rattle.punycode.specs.declared.spell.Step.{Step}
-use Rattle.punycode.specs.declared.spell.Step.TheVariants.{Char, NoChar}
+
+-- what counts below the base is a digit
+unfoldable pub as_digit : ℕ → Option ℕ
+as_digit d = if-then (ltb d base) (Some d) None
 
 -- the delta at a place
 abbrev pub delta_at : ℕ → List ℕ → ℕ → Delta
@@ -19,15 +20,11 @@ unfoldable pub limited : Delta → Delta
 limited (read v rest) = if-then (ltb v limit) (read v rest) unread
 limited unread = unread
 
--- every bias stays below this (`adapted-small`)
-abbrev pub bias-limit : ℕ
-bias-limit = 2 ^ 34
-
 -- an answer's next place stands for the text from there on
-unfoldable pub as_delta : List ℕ → Read → Delta
-as_delta name (Value v next) = read v (drop next name)
-as_delta name NoValue = unread
+unfoldable pub as_delta : List ℕ → Option (ℕ × ℕ) → Delta
+as_delta name (Some (v, next)) = read v (drop next name)
+as_delta name None = unread
 
-unfoldable pub as_turn : List ℕ → Step → Turn
-as_turn name (Char n i bias next) = turn n i bias (drop next name)
-as_turn name NoChar = no_turn
+unfoldable pub as_turn : List ℕ → Option Step → Turn
+as_turn name (Some s) = turn s.value s.place s.bias (drop s.next name)
+as_turn name None = no_turn

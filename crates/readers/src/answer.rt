@@ -1,98 +1,86 @@
 // The answer to a line.
 use crate::field;
-use lines::input::{Bytes, Field, Held};
-use lines::output::{put, put_byte};
-use parser::number::Back;
+use lines::input::{first_field, from_hex, number_of};
+use parser::bytes::{eat, namespace, next, peek};
+use parser::number::{backref, digit_at, hex_nibbles, integer_62, opt_integer_62};
 use std::io::Write;
+use std::{fmt, io};
 
-// A last line with no line end is a line, unless nothing stands there.
-pub fn unended(
-    line: &[u8],
-    h: Held,
-    text: &mut [u8],
-    to: &mut impl Write,
-    out: &mut [u8],
-    used: usize,
-) -> usize {
-    if h.count == 0 {
-        return used;
+// A line, or the start of one that is longer than there is room for.
+pub fn line(line: Result<&[u8], &[u8]>, room: &mut [u8], out: &mut impl Write) -> io::Result<()> {
+    match question(line, room) {
+        Ok((s, at)) => answers(s, at, out)?,
+        Err(wrong) => write!(out, "{wrong}")?,
     }
-    self::line(line, h, text, to, out, used)
+    out.write_all(b"\n")
 }
 
-pub fn line(
-    line: &[u8],
-    h: Held,
-    text: &mut [u8],
-    to: &mut impl Write,
-    out: &mut [u8],
-    used: usize,
-) -> usize {
-    if h.long {
-        return put(to, out, used, b"? long\n");
-    }
-    let k = question(lines::input::front(line, h.count), text, to, out, used);
-    put_byte(to, out, k, b'\n')
+// Why a line is no question.
+#[derive(Clone, Copy, Debug, Drop, PartialEq, Eq)]
+enum Wrong {
+    Long,
+    Place,
+    Hex,
 }
 
-fn question(
-    line: &[u8],
-    text: &mut [u8],
-    to: &mut impl Write,
-    out: &mut [u8],
-    used: usize,
-) -> usize {
-    let Field::Number(at) = lines::input::number_field(line, 999_999_999) else {
-        return put(to, out, used, b"? place");
+impl fmt::Display for Wrong {
+    fn fmt<W: fmt::Write>(&self, f: &mut fmt::Formatter<W>) -> fmt::Result {
+        f.write_str(match self {
+            Wrong::Long => "? long",
+            Wrong::Place => "? place",
+            Wrong::Hex => "? hex",
+        })
+    }
+}
+
+// The bytes and the place in them. The original takes ASCII alone.
+fn question<'a>(
+    line: Result<&[u8], &[u8]>,
+    room: &'a mut [u8],
+) -> Result<(&'a [u8], usize), Wrong> {
+    let line = line.or(Err(Wrong::Long))?;
+    let (place, hex) = first_field(line);
+    let at = number_of(place, 999_999_999).ok_or(Wrong::Place)?;
+    let s = from_hex(hex, room).ok_or(Wrong::Hex)?;
+    if !s.is_ascii() {
+        return Err(Wrong::Hex);
+    }
+    Ok((s, at as usize))
+}
+
+fn answers(s: &[u8], at: usize, out: &mut impl Write) -> io::Result<()> {
+    single(s, at, out)?;
+    numbers(s, at, out)?;
+    places(s, at, out)?;
+    field::ident(s, at, out)?;
+    field::hex_value(s, at, out)?;
+    field::hex_text(s, at, out)
+}
+
+fn single(s: &[u8], at: usize, out: &mut impl Write) -> io::Result<()> {
+    write!(out, "{} ", peek(s, at))?;
+    field::pair(out, next(s, at))?;
+    write!(out, "{} ", eat(s, at, b'_'))
+}
+
+fn numbers(s: &[u8], at: usize, out: &mut impl Write) -> io::Result<()> {
+    field::pair(out, digit_at(s, at, 10))?;
+    field::pair(out, digit_at(s, at, 62))?;
+    field::pair(out, integer_62(s, at))?;
+    field::pair(out, opt_integer_62(s, at, b's'))?;
+    field::pair(out, opt_integer_62(s, at, b'G'))
+}
+
+fn places(s: &[u8], at: usize, out: &mut impl Write) -> io::Result<()> {
+    field::pair(out, hex_nibbles(s, at))?;
+    // The letter of a special one; 0 for a plain one.
+    let space = namespace(s, at).map(|(letter, next)| (letter.unwrap_or(0), next));
+    field::pair(out, space)?;
+    // The back reference whose `B` is taken to stand at the place.
+    let back = if at < s.len() {
+        backref(s, at + 1)
+    } else {
+        None
     };
-    let hex = lines::input::behind(line);
-    let Bytes::Count(n) = lines::input::from_hex(hex, text) else {
-        return put(to, out, used, b"? hex");
-    };
-    if n > text.len() {
-        return used;
-    }
-    let from = 0;
-    answers(&text[from..n], at as usize, to, out, used)
-}
-
-// The original takes ASCII alone.
-fn answers(s: &[u8], at: usize, to: &mut impl Write, out: &mut [u8], used: usize) -> usize {
-    if !lines::input::ascii(s) {
-        return put(to, out, used, b"? hex");
-    }
-    let bytes = single(s, at, to, out, used);
-    let digits = numbers(s, at, to, out, bytes);
-    let more = places(s, at, to, out, digits);
-    let name = field::ident(s, at, to, out, more);
-    let hex = field::hex_value(s, at, to, out, name);
-    field::hex_text(s, at, to, out, hex)
-}
-
-fn single(s: &[u8], at: usize, to: &mut impl Write, out: &mut [u8], used: usize) -> usize {
-    let a = field::number(to, out, used, parser::bytes::peek(s, at) as u64);
-    let b = field::byte(to, out, a, parser::bytes::next(s, at));
-    field::number(to, out, b, parser::bytes::eat(s, at, b'_') as u64)
-}
-
-fn numbers(s: &[u8], at: usize, to: &mut impl Write, out: &mut [u8], used: usize) -> usize {
-    let a = field::num(to, out, used, parser::number::digit_10(s, at));
-    let b = field::num(to, out, a, parser::number::digit_62(s, at));
-    let c = field::num(to, out, b, parser::number::integer_62(s, at));
-    let d = field::num(to, out, c, parser::number::opt_integer_62(s, at, b's'));
-    field::num(to, out, d, parser::number::opt_integer_62(s, at, b'G'))
-}
-
-fn places(s: &[u8], at: usize, to: &mut impl Write, out: &mut [u8], used: usize) -> usize {
-    let a = field::nibbles(to, out, used, parser::number::hex_nibbles(s, at));
-    let b = field::space(to, out, a, parser::bytes::namespace(s, at));
-    field::back(to, out, b, back_at(s, at))
-}
-
-// The back reference whose `B` is taken to stand at a place.
-fn back_at(s: &[u8], at: usize) -> Back {
-    if at >= s.len() {
-        return Back::Invalid;
-    }
-    parser::number::backref(s, at + 1)
+    field::pair(out, back)
 }

@@ -1,173 +1,88 @@
 // A field of an answer, with the blank behind it.
-use lines::output::{put, put_byte, put_decimal, put_hex};
-use nibbles::text::Char;
+use nibbles::text::{char_at, is_text};
 use nibbles::uint::Hex;
-use parser::bytes::{Byte, Space};
 use parser::names::Name;
-use parser::number::{Back, Nibbles, Num};
-use punycode::Decoded;
+use parser::number::hex_nibbles;
+use punycode::{DecodeError, decode};
+use std::fmt::Display;
+use std::io;
 use std::io::Write;
 
-pub fn number(to: &mut impl Write, out: &mut [u8], used: usize, n: u64) -> usize {
-    let k = put_decimal(to, out, used, n);
-    put_byte(to, out, k, b' ')
-}
-
-fn pair(to: &mut impl Write, out: &mut [u8], used: usize, a: u64, b: u64) -> usize {
-    let k = put_decimal(to, out, used, a);
-    let m = put_byte(to, out, k, b',');
-    number(to, out, m, b)
-}
-
-fn invalid(to: &mut impl Write, out: &mut [u8], used: usize) -> usize {
-    put(to, out, used, b"! ")
-}
-
-pub fn byte(to: &mut impl Write, out: &mut [u8], used: usize, r: Byte) -> usize {
-    let Byte::Read(b, next) = r else {
-        return invalid(to, out, used);
-    };
-    pair(to, out, used, b as u64, next as u64)
-}
-
-pub fn num(to: &mut impl Write, out: &mut [u8], used: usize, r: Num) -> usize {
-    let Num::Value(v, next) = r else {
-        return invalid(to, out, used);
-    };
-    pair(to, out, used, v, next as u64)
-}
-
-pub fn nibbles(to: &mut impl Write, out: &mut [u8], used: usize, r: Nibbles) -> usize {
-    let Nibbles::To(e, next) = r else {
-        return invalid(to, out, used);
-    };
-    pair(to, out, used, e as u64, next as u64)
-}
-
-pub fn back(to: &mut impl Write, out: &mut [u8], used: usize, r: Back) -> usize {
-    let Back::Target(v, next) = r else {
-        return invalid(to, out, used);
-    };
-    pair(to, out, used, v as u64, next as u64)
-}
-
-pub fn space(to: &mut impl Write, out: &mut [u8], used: usize, r: Space) -> usize {
+// What was read and the next place, as `v,next `.
+pub fn pair<V: Display + Drop>(out: &mut impl Write, r: Option<(V, usize)>) -> io::Result<()> {
     match r {
-        Space::Special(b, next) => pair(to, out, used, b as u64, next as u64),
-        Space::Plain(next) => pair(to, out, used, 0, next as u64),
-        Space::Invalid => invalid(to, out, used),
+        Some((v, next)) => write!(out, "{v},{next} "),
+        None => out.write_all(b"! "),
     }
 }
 
 // An identifier's places, and then its characters where it has Punycode.
-pub fn ident(s: &[u8], at: usize, to: &mut impl Write, out: &mut [u8], used: usize) -> usize {
-    let Name::Parts(a, b, c, e) = parser::names::ident(s, at) else {
-        return put(to, out, used, b"! - ");
+pub fn ident(s: &[u8], at: usize, out: &mut impl Write) -> io::Result<()> {
+    let Some(name) = parser::names::ident(s, at) else {
+        return out.write_all(b"! - ");
     };
-    let k = put_decimal(to, out, used, a as u64);
-    let m = put_byte(to, out, k, b',');
-    let n = put_decimal(to, out, m, b as u64);
-    let p = put_byte(to, out, n, b',');
-    let q = pair(to, out, p, c as u64, e as u64);
-    if c == e {
-        return put(to, out, q, b"- ");
+    write!(
+        out,
+        "{},{},{},{} ",
+        name.start, name.split, name.code, name.end
+    )?;
+    if name.code == name.end {
+        return out.write_all(b"- ");
     }
-    if a > b {
-        return q;
-    }
-    if b > c {
-        return q;
-    }
-    if e > s.len() {
-        return q;
-    }
-    if c > e {
-        return q;
-    }
-    spelt(&s[a..e], b - a, c - a, to, out, q)
+    spelt(s, name, out)
 }
 
-fn spelt(
-    name: &[u8],
-    ascii: usize,
-    code: usize,
-    to: &mut impl Write,
-    out: &mut [u8],
-    used: usize,
-) -> usize {
+// The characters of an identifier that has Punycode.
+fn spelt(s: &[u8], name: Name, out: &mut impl Write) -> io::Result<()> {
+    let bytes = s.get(name.start..name.end).unwrap_or(&[]);
+    let ascii = name.split.saturating_sub(name.start);
+    let code = name.code.saturating_sub(name.start);
     let mut chars = [0u32; 128];
-    match punycode::decode(name, ascii, code, &mut chars) {
-        Decoded::Chars(n) => characters(&chars, n, to, out, used),
-        Decoded::Long => put(to, out, used, b"long "),
-        Decoded::Broken => put(to, out, used, b"broken "),
+    match decode(bytes, ascii, code, &mut chars) {
+        Ok(n) => {
+            out.write_all(b"=")?;
+            for (i, c) in chars.iter().take(n).enumerate() {
+                character(out, i == 0, *c)?;
+            }
+            out.write_all(b" ")
+        }
+        Err(DecodeError::Long) => out.write_all(b"long "),
+        Err(DecodeError::Broken) => out.write_all(b"broken "),
     }
 }
 
 // A character in hex, with a `.` before it unless it is the first.
-fn character(to: &mut impl Write, out: &mut [u8], used: usize, first: bool, c: u32) -> usize {
-    if first {
-        return put_hex(to, out, used, c as u64);
-    }
-    let k = put_byte(to, out, used, b'.');
-    put_hex(to, out, k, c as u64)
+fn character(out: &mut impl Write, first: bool, c: u32) -> io::Result<()> {
+    let dot = if first { "" } else { "." };
+    write!(out, "{dot}{c:x}")
 }
 
-// The first n characters.
-fn characters(
-    chars: &[u32; 128],
-    n: usize,
-    to: &mut impl Write,
-    out: &mut [u8],
-    used: usize,
-) -> usize {
-    let mut k = put_byte(to, out, used, b'=');
-    for i in 0..n {
-        if i >= 128 {
-            return k;
-        }
-        k = character(to, out, k, i == 0, chars[i]);
-    }
-    put_byte(to, out, k, b' ')
-}
-
-pub fn hex_value(s: &[u8], at: usize, to: &mut impl Write, out: &mut [u8], used: usize) -> usize {
+pub fn hex_value(s: &[u8], at: usize, out: &mut impl Write) -> io::Result<()> {
     match nibbles::uint::hex_value(s, at) {
-        Hex::Small(v, next) => pair(to, out, used, v, next as u64),
-        Hex::Big(e, next) => {
-            let k = put_byte(to, out, used, b'*');
-            pair(to, out, k, e as u64, next as u64)
-        }
-        Hex::Invalid => invalid(to, out, used),
+        Some((Hex::Small(v), next)) => write!(out, "{v},{next} "),
+        Some((Hex::Big(e), next)) => write!(out, "*{e},{next} "),
+        None => out.write_all(b"! "),
     }
 }
 
 // The last field, so with no blank behind it.
-pub fn hex_text(s: &[u8], at: usize, to: &mut impl Write, out: &mut [u8], used: usize) -> usize {
-    let Nibbles::To(e, _) = parser::number::hex_nibbles(s, at) else {
-        return put_byte(to, out, used, b'!');
-    };
-    if at > e {
-        return used;
+pub fn hex_text(s: &[u8], at: usize, out: &mut impl Write) -> io::Result<()> {
+    match hex_nibbles(s, at) {
+        Some((end, _)) => text(s.get(at..end).unwrap_or(&[]), out),
+        None => out.write_all(b"!"),
     }
-    if e > s.len() {
-        return used;
-    }
-    let part = &s[at..e];
-    if !nibbles::text::is_text(part) {
-        return put(to, out, used, b"bad");
-    }
-    text(part, to, out, used)
 }
 
-fn text(part: &[u8], to: &mut impl Write, out: &mut [u8], used: usize) -> usize {
-    let mut k = put_byte(to, out, used, b'=');
+#[tactic(auto, using(crate::proofs::TextLaws::text_laws))]
+fn text(nibbles: &[u8], out: &mut impl Write) -> io::Result<()> {
+    if !is_text(nibbles) {
+        return out.write_all(b"bad");
+    }
+    out.write_all(b"=")?;
     let mut at = 0;
-    for _ in 0..part.len() {
-        let Char::One(c, next) = nibbles::text::char_at(part, at) else {
-            return k;
-        };
-        k = character(to, out, k, at == 0, c);
+    while let Ok(Some((c, next))) = char_at(nibbles, at) {
+        character(out, at == 0, c)?;
         at = next;
     }
-    k
+    Ok(())
 }

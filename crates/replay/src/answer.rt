@@ -1,123 +1,75 @@
 // The answer to a line.
 use crate::field;
 use demangle::print::{Mode, print};
-use lines::input::{Bytes, Field, Held};
-use lines::output::{put, put_byte};
-use parser::bytes::peek;
+use lines::input::{first_field, from_hex, number_of};
 use std::io::Write;
+use std::{fmt, io};
 
-// A last line with no line end is a line, unless nothing stands there.
-pub fn unended(
-    line: &[u8],
-    h: Held,
-    text: &mut [u8],
-    room: &mut [u8],
-    to: &mut impl Write,
-    out: &mut [u8],
-    used: usize,
-) -> usize {
-    if h.count == 0 {
-        return used;
-    }
-    self::line(line, h, text, room, to, out, used)
+// What a line asks: the mode, the room for the name, and the symbol.
+struct Question<'a> {
+    mode: Mode,
+    room: &'a mut [u8],
+    symbol: &'a [u8],
 }
 
+// Why a line is no question.
+#[derive(Clone, Copy, Debug, Drop, PartialEq, Eq)]
+enum Wrong {
+    Long,
+    Mode,
+    Room,
+    Hex,
+}
+
+impl fmt::Display for Wrong {
+    fn fmt<W: fmt::Write>(&self, f: &mut fmt::Formatter<W>) -> fmt::Result {
+        f.write_str(match self {
+            Wrong::Long => "? long",
+            Wrong::Mode => "? mode",
+            Wrong::Room => "? room",
+            Wrong::Hex => "? hex",
+        })
+    }
+}
+
+// A line, or the start of one that is longer than there is room for.
 pub fn line(
-    line: &[u8],
-    h: Held,
-    text: &mut [u8],
+    line: Result<&[u8], &[u8]>,
+    bytes: &mut [u8],
     room: &mut [u8],
-    to: &mut impl Write,
-    out: &mut [u8],
-    used: usize,
-) -> usize {
-    if h.long {
-        return put(to, out, used, b"? long\n");
+    out: &mut impl Write,
+) -> io::Result<()> {
+    match parsed(line, bytes, room) {
+        Ok(question) => answer(question, out)?,
+        Err(wrong) => write!(out, "{wrong}")?,
     }
-    let k = question(
-        lines::input::front(line, h.count),
-        text,
-        room,
-        to,
-        out,
-        used,
-    );
-    put_byte(to, out, k, b'\n')
+    out.write_all(b"\n")
 }
 
-fn question(
-    line: &[u8],
-    text: &mut [u8],
-    room: &mut [u8],
-    to: &mut impl Write,
-    out: &mut [u8],
-    used: usize,
-) -> usize {
-    let Asked::In(mode) = mode_of(line) else {
-        return put(to, out, used, b"? mode");
+// What a line asks, with the bytes of its symbol put into a buffer.
+fn parsed<'a>(
+    line: Result<&[u8], &[u8]>,
+    bytes: &'a mut [u8],
+    room: &'a mut [u8],
+) -> Result<Question<'a>, Wrong> {
+    let line = line.or(Err(Wrong::Long))?;
+    let (mode, rest) = first_field(line);
+    let mode = match mode {
+        b"p" => Mode::Plain,
+        b"s" => Mode::Short,
+        _ => return Err(Wrong::Mode),
     };
-    symbol(lines::input::behind(line), mode, text, room, to, out, used)
+    let (width, hex) = first_field(rest);
+    let width = number_of(width, 65536).ok_or(Wrong::Room)?;
+    let symbol = from_hex(hex, bytes).ok_or(Wrong::Hex)?;
+    let room = room.get_mut(..width as usize).ok_or(Wrong::Room)?;
+    Ok(Question { mode, room, symbol })
 }
 
-// Behind the mode: the room, and the symbol in hex.
-fn symbol(
-    line: &[u8],
-    mode: Mode,
-    text: &mut [u8],
-    room: &mut [u8],
-    to: &mut impl Write,
-    out: &mut [u8],
-    used: usize,
-) -> usize {
-    let Field::Number(n) = lines::input::number_field(line, 65536) else {
-        return put(to, out, used, b"? room");
-    };
-    let Bytes::Count(k) = lines::input::from_hex(lines::input::behind(line), text) else {
-        return put(to, out, used, b"? hex");
-    };
-    let width = n as usize;
-    if width > room.len() {
-        return used;
-    }
-    if k > text.len() {
-        return used;
-    }
-    let from = 0;
-    ask(&text[from..k], mode, &mut room[from..width], to, out, used)
-}
-
-// The mode that a line asks for.
-#[derive(Drop)]
-enum Asked {
-    In(Mode),
-    None,
-}
-
-// `p` is plain, `s` is short.
-fn mode_of(line: &[u8]) -> Asked {
-    if lines::input::field_end(line) != 1 {
-        return Asked::None;
-    }
-    let b = peek(line, 0);
-    if b == b'p' {
-        return Asked::In(Mode::Plain);
-    }
-    if b == b's' {
-        return Asked::In(Mode::Short);
-    }
-    Asked::None
-}
-
-fn ask(
-    symbol: &[u8],
-    mode: Mode,
-    room: &mut [u8],
-    to: &mut impl Write,
-    out: &mut [u8],
-    used: usize,
-) -> usize {
-    field::fill(room);
-    let k = field::checked(to, out, used, symbol);
-    let p = print(symbol, mode, room);
-    field::printed(to, out, k, p, room)
+fn answer(question: Question<'_>, out: &mut impl Write) -> io::Result<()> {
+    let Question { mode, room, symbol } = question;
+    room.fill(field::BEFORE);
+    field::checked(symbol, out)?;
+    let printed = print(symbol, mode, room);
+    field::printed(printed, room, out)
 }

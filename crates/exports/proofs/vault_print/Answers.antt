@@ -1,18 +1,11 @@
 -- `exports::vault_print` meets its contract.
-use Rattle.exports.proofs.ReportLaws.{print-laws}
+use Rattle.exports.proofs.ReportLaws.{print-done, print-refused}
 use Rattle.exports.proofs.vault_print.Goals as goal
 
-pub returns-in-Done : goal.returns-in-Done
-returns-in-Done c = search print-laws
+pub returns-in-Ok : goal.returns-in-Ok
+returns-in-Ok c =
+    print-done c.args.mode c.args.symbol.now c.args.buffer.now _ c.args.report.now _ c.mode_of.ensures c.print.ensures c.in-Ok.is c.state_of.ensures c.tell.ensures
 
-pub returns-in-Invalid : goal.returns-in-Invalid
-returns-in-Invalid c = search print-laws
-
-pub returns-in-RecursedTooDeep : goal.returns-in-RecursedTooDeep
-returns-in-RecursedTooDeep c = search print-laws
-
-pub returns-in-TooLong : goal.returns-in-TooLong
-returns-in-TooLong c = search print-laws
-
-pub returns-in-NoRoom : goal.returns-in-NoRoom
-returns-in-NoRoom c = search print-laws
+pub returns-in-Err : goal.returns-in-Err
+returns-in-Err c =
+    print-refused c.args.mode c.args.symbol.now c.args.buffer.now _ c.args.report.now _ c.mode_of.ensures c.print.ensures c.in-Err.is c.number.ensures c.length_of.ensures c.tell-in-Err.ensures

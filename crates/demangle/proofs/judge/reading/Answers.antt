@@ -1,12 +1,6 @@
 -- `demangle::judge::reading` meets its contract.
-use Rattle.demangle.proofs.JudgeLaws.{reading-laws}
+use Rattle.demangle.proofs.JudgeLaws.{reading-paths}
 use Rattle.demangle.proofs.judge.reading.Goals as goal
 
-pub returns-then-not-upper : goal.returns-then-not-upper
-returns-then-not-upper c = search reading-laws
-
-pub returns-then-not-ascii : goal.returns-then-not-ascii
-returns-then-not-ascii c = search reading-laws
-
 pub returns : goal.returns
-returns c = search reading-laws
+returns c = reading-paths c.args.s.now c.second.ensures c.in_ok-path.was c.path.ensures c.ascii.ensures c.if-not-ascii.false c.peek-b.ensures c.if-not-is_ascii_uppercase.ensures.value

@@ -2,17 +2,8 @@
 use Rattle.pieces.proofs.NameLaws.{encoded-laws}
 use Rattle.pieces.proofs.names.put_encoded.Goals as goal
 
-pub loop-i-init : goal.loop-i-init
-loop-i-init c = search encoded-laws
-
-pub returns-in_default : goal.returns-in_default
-returns-in_default c = search encoded-laws
-
-pub loop-i-preserved : goal.loop-i-preserved
-loop-i-preserved c = search encoded-laws
-
-pub returns : goal.returns
-returns c = search encoded-laws
+pub loop-c-init : goal.loop-c-init
+loop-c-init c = search encoded-laws
 
 pub slice_bounds-put_utf8-count : goal.slice_bounds-put_utf8-count
 slice_bounds-put_utf8-count c = search encoded-laws
@@ -23,5 +14,14 @@ slice_bounds-put_utf8-start c = search encoded-laws
 pub put_utf8-requires : goal.put_utf8-requires
 put_utf8-requires c = search encoded-laws
 
+pub returns-in_err-w : goal.returns-in_err-w
+returns-in_err-w c = search encoded-laws
+
 pub overflow_add-w : goal.overflow_add-w
 overflow_add-w c = search encoded-laws
+
+pub loop-c-preserved : goal.loop-c-preserved
+loop-c-preserved c = search encoded-laws
+
+pub returns : goal.returns
+returns c = search encoded-laws

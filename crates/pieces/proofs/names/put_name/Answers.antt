@@ -8,8 +8,8 @@ returns-then-code-name c = search name-laws
 pub returns-in_default : goal.returns-in_default
 returns-in_default c = search name-laws
 
+pub put_encoded-requires : goal.put_encoded-requires
+put_encoded-requires c = search name-laws
+
 pub returns : goal.returns
 returns c = search name-laws
-
-pub put_decoded-requires-clause-scalars : goal.put_decoded-requires-clause-scalars
-put_decoded-requires-clause-scalars c = search name-laws

@@ -4,17 +4,9 @@ use Rattle.pieces.specs.Words.{ascii}
 use Rattle.pieces.proofs.WritingLaws.{piece-laws}
 use Rattle.pieces.proofs.names.put_raw.Goals as goal
 
-pub returns-in_default : goal.returns-in_default
+pub returns-in_err-a : goal.returns-in_err-a
 unfolding raw_name ascii
-returns-in_default c = search piece-laws
-
-pub returns-in_default-put_parts : goal.returns-in_default-put_parts
-unfolding raw_name ascii
-returns-in_default-put_parts c = search piece-laws
-
-pub returns : goal.returns
-unfolding raw_name ascii
-returns c = search piece-laws
+returns-in_err-a c = search piece-laws
 
 pub slice_bounds-put_parts-count : goal.slice_bounds-put_parts-count
 slice_bounds-put_parts-count c = search piece-laws
@@ -22,5 +14,13 @@ slice_bounds-put_parts-count c = search piece-laws
 pub slice_bounds-put_parts-start : goal.slice_bounds-put_parts-start
 slice_bounds-put_parts-start c = search piece-laws
 
+pub returns-in_err-k : goal.returns-in_err-k
+unfolding raw_name ascii
+returns-in_err-k c = search piece-laws
+
 pub overflow_add-result : goal.overflow_add-result
 overflow_add-result c = search piece-laws
+
+pub returns : goal.returns
+unfolding raw_name ascii
+returns c = search piece-laws

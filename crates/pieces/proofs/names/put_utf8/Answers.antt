@@ -5,11 +5,8 @@ use Rattle.pieces.proofs.names.put_utf8.Goals as goal
 pub returns-then-c-lt128 : goal.returns-then-c-lt128
 returns-then-c-lt128 c = search utf8-laws
 
-pub returns-then-c-lt2048 : goal.returns-then-c-lt2048
-returns-then-c-lt2048 c = search utf8-laws
-
-pub returns-then-c-lt65536 : goal.returns-then-c-lt65536
-returns-then-c-lt65536 c = search utf8-laws
+pub unwrap-requires : goal.unwrap-requires
+unwrap-requires c = search utf8-laws
 
 pub returns : goal.returns
 returns c = search utf8-laws

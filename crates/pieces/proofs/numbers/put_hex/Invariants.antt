@@ -1,5 +1,4 @@
--- What the loop of `pieces::numbers::put_hex` keeps, and what falls.
-use Prim.Native.Nat.{◌-◌}
+-- What the loop of `pieces::numbers::put_hex` keeps.
 use lib.ListN.{drop}
 use Rattle.pieces.specs.Numeral.{hexadecimal}
 use Rattle.pieces.proofs.WritingLaws.{Going}
@@ -7,6 +6,3 @@ use Rattle.pieces.proofs.numbers.put_hex.Given as goal
 
 abbrev pub invariant-loop-i : goal.invariant-loop-i
 invariant-loop-i l = Going (hexadecimal l.v) (drop l.i (hexadecimal l.v)) l.initial.out l.out l.i
-
-abbrev pub decreases-loop-i : goal.decreases-loop-i
-decreases-loop-i l = l.n - l.i

@@ -3,17 +3,9 @@ use Rattle.pieces.specs.Quoted.{quoted}
 use Rattle.pieces.proofs.WritingLaws.{piece-laws}
 use Rattle.pieces.proofs.quoted.put_text.Goals as goal
 
-pub returns-in_default : goal.returns-in_default
+pub returns-in_err-a : goal.returns-in_err-a
 unfolding quoted
-returns-in_default c = search piece-laws
-
-pub returns-in_default-put_chars_end : goal.returns-in_default-put_chars_end
-unfolding quoted
-returns-in_default-put_chars_end c = search piece-laws
-
-pub returns : goal.returns
-unfolding quoted
-returns c = search piece-laws
+returns-in_err-a c = search piece-laws
 
 pub slice_bounds-put_chars_end-count : goal.slice_bounds-put_chars_end-count
 slice_bounds-put_chars_end-count c = search piece-laws
@@ -21,5 +13,13 @@ slice_bounds-put_chars_end-count c = search piece-laws
 pub slice_bounds-put_chars_end-start : goal.slice_bounds-put_chars_end-start
 slice_bounds-put_chars_end-start c = search piece-laws
 
+pub returns-in_err-k : goal.returns-in_err-k
+unfolding quoted
+returns-in_err-k c = search piece-laws
+
 pub overflow_add-result : goal.overflow_add-result
 overflow_add-result c = search piece-laws
+
+pub returns : goal.returns
+unfolding quoted
+returns c = search piece-laws

@@ -1,11 +1,6 @@
--- What the loop of `punycode::delta::read_delta` keeps, and what falls.
-use Prim.Native.Nat.{◌-◌}
-use lib.ListN.{length}
+-- What the loop of `punycode::delta::read_delta` keeps.
 use Rattle.punycode.proofs.DeltaLaws.{Reading}
 use Rattle.punycode.proofs.delta.read_delta.Given as goal
 
 abbrev pub invariant-loop-i : goal.invariant-loop-i
 invariant-loop-i l = Reading l.bias l.name l.at l.x l.w l.k l.i
-
-abbrev pub decreases-loop-i : goal.decreases-loop-i
-decreases-loop-i l = length l.name - l.i

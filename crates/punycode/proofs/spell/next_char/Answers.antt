@@ -1,21 +1,12 @@
--- `punycode::spell::next_char` meets its contract.
-use Rattle.punycode.proofs.TurnLaws.{turn-laws}
+-- `punycode::spell::next_char` meets its contract, where a delta is read.
+use Rattle.punycode.proofs.TurnLaws.{turn_laws, turn-bad}
 use Rattle.punycode.proofs.spell.next_char.Goals as goal
 
-pub returns-in_default : goal.returns-in_default
-returns-in_default c = search turn-laws
+pub overflow_add-value : goal.overflow_add-value
+overflow_add-value c = search (turn_laws, c.in_ok-delta.was)
 
-pub returns-then-good : goal.returns-then-good
-returns-then-good c = search turn-laws
+pub adapt-requires-clause-delta_lt_limit : goal.adapt-requires-clause-delta_lt_limit
+adapt-requires-clause-delta_lt_limit c = search (turn_laws, c.in_ok-delta.was)
 
-pub returns : goal.returns
-returns c = search turn-laws
-
-pub overflow_add-p : goal.overflow_add-p
-overflow_add-p c = search turn-laws
-
-pub overflow_add-m : goal.overflow_add-m
-overflow_add-m c = search turn-laws
-
-pub adapt-fresh-requires-clause-delta_lt_limit : goal.adapt-fresh-requires-clause-delta_lt_limit
-adapt-fresh-requires-clause-delta_lt_limit c = search turn-laws
+pub returns-else-is_scalar : goal.returns-else-is_scalar
+returns-else-is_scalar c = turn-bad c.args.name.now c.args.at c.args.n c.args.i c.args.bias c.args.len c.requires.le_len c.requires.len_bound _ c.read_delta.ensures c.in_ok-delta.was c.if-is_scalar.ensures

@@ -1,9 +1,0 @@
--- `printer::leaf::boolean` meets its contract.
-use Rattle.printer.proofs.LeafLaws.{literal-laws}
-use Rattle.printer.proofs.leaf.boolean.Goals as goal
-
-pub returns-in_default : goal.returns-in_default
-returns-in_default c = search literal-laws
-
-pub returns : goal.returns
-returns c = search literal-laws

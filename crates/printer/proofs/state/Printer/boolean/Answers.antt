@@ -1,0 +1,6 @@
+-- `printer::state::Printer::boolean` meets its contract.
+use Rattle.printer.proofs.LeafLaws.{literal_laws}
+use Rattle.printer.proofs.state.Printer.boolean.Goals as goal
+
+pub returns-clause-says : goal.returns-clause-says
+returns-clause-says c = search literal_laws

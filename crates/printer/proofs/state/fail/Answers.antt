@@ -1,6 +1,0 @@
--- `printer::state::fail` meets its contract.
-use Rattle.printer.proofs.StateLaws.{state-laws}
-use Rattle.printer.proofs.state.fail.Goals as goal
-
-pub returns : goal.returns
-returns c = search state-laws

@@ -1,6 +1,0 @@
--- `printer::state::go` meets its contract.
-use Rattle.printer.proofs.StateLaws.{state-laws}
-use Rattle.printer.proofs.state.go.Goals as goal
-
-pub returns : goal.returns
-returns c = search state-laws

@@ -1,6 +1,0 @@
--- `printer::state::hurt` meets its contract.
-use Rattle.printer.proofs.StateLaws.{state-laws}
-use Rattle.printer.proofs.state.hurt.Goals as goal
-
-pub returns : goal.returns
-returns c = search state-laws

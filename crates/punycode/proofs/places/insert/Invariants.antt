@@ -1,9 +1,0 @@
--- What the loop of `punycode::places::insert` keeps, and what falls.
-use Rattle.punycode.proofs.PlaceLaws.{Opened}
-use Rattle.punycode.proofs.places.insert.Given as goal
-
-abbrev pub invariant-loop-j : goal.invariant-loop-j
-invariant-loop-j l = Opened l.initial.chars l.chars l.len l.place l.j
-
-abbrev pub decreases-loop-j : goal.decreases-loop-j
-decreases-loop-j l = l.j
