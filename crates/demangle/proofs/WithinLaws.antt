@@ -77,3 +77,7 @@ accepted-within s h e = subst (VerdictIn s) (sym h ∙ e) (verdict-in s)
 -- no verdict is NoRoom
 pub never-full : (s : List ℕ) {v : Verdict} {e : Refusal} → v ≡ verdict_of s → v ≡ Err e → Refuses e
 never-full s h e = subst (VerdictIn s) (sym h ∙ e) (verdict-in s)
+
+-- nor does a refusal that comes from a reading become one
+pub judge_room : (s : List ℕ) {f : Reached} {e : Refusal} {v : Verdict} → f ≡ reading_of s → f ≡ Err e → v ≡ Err e → v ≡ Err NoRoom → ⊥
+judge_room s h k l m = subst (VerdictIn s) (sym l ∙ m) (subst (ReachedIn s) (sym h ∙ k) (reading-in s))

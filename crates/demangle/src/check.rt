@@ -1,5 +1,5 @@
 // Whether a symbol is accepted, and what is left of it.
-ghost use Rattle.std.specs.Prelude.{◌≡◌};
+ghost use Rattle.std.specs.Prelude.{◌≡◌, ◌≢◌, Err};
 ghost use Rattle.demangle.specs.Rows.{check_number, number_of, suffix_from};
 ghost use Rattle.demangle.specs.Part.{TailOf};
 
@@ -8,7 +8,8 @@ use crate::refusal::Refusal;
 
 #[tactic(auto, using(crate::proofs::RowLaws::check_laws))]
 pub fn check(symbol: &[u8]) -> Result<(), Refusal>
-    ensures { check_number result ≡ number_of symbol.now }
+    ensures number { check_number result ≡ number_of symbol.now }
+    ensures room { result ≢ Err Refusal.NoRoom }
 {
     judge(symbol)?;
     Ok(())

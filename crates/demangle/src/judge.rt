@@ -1,5 +1,5 @@
 // Which symbols are accepted: length, prefix, first byte, ASCII, first path, second path, in this order.
-ghost use Rattle.std.specs.Prelude.{◌≡◌};
+ghost use Rattle.std.specs.Prelude.{◌≡◌, ◌≢◌, Err};
 ghost use Rattle.demangle.specs.Accept.{prefix_of, all_ascii, path_at, second_at, reading_of, verdict_of};
 
 use crate::refusal::Refusal;
@@ -28,7 +28,7 @@ fn prefix(symbol: &[u8]) -> Option<usize>
     None
 }
 
-// In the definition's words.
+// What the library's test says, in the definition's words: one fact that both callers and the wrong edit of it are held to.
 #[tactic(auto, using(crate::proofs::PrefixLaws::ascii_is))]
 fn ascii(s: &[u8]) -> bool
     ensures { result ≡ all_ascii s.now }
@@ -79,9 +79,10 @@ fn reading(s: &[u8]) -> Result<usize, Refusal>
 }
 
 // How many bytes a symbol's prefix has, and how many were read behind it.
-#[tactic(auto, using(crate::proofs::JudgeLaws::judge_laws))]
+#[tactic(auto, using(crate::proofs::JudgeLaws::judge_laws, crate::proofs::WithinLaws::judge_room))]
 pub fn judge(symbol: &[u8]) -> Result<(usize, usize), Refusal>
-    ensures { result ≡ verdict_of symbol.now }
+    ensures verdict { result ≡ verdict_of symbol.now }
+    ensures room { result ≢ Err Refusal.NoRoom }
 {
     if symbol.len() > MOST {
         return Err(Refusal::TooLong);

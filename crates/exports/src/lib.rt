@@ -56,7 +56,7 @@ fn length_of(refusal: Refusal, buffer: &[u8]) -> usize
     }
 }
 
-// A number of the report, where it has room.
+// A number of the report, where it has room: C may lend fewer than two, and so no array of two and no copy of it.
 #[tactic(auto, using(crate::proofs::ReportLaws::put_laws))]
 fn put(report: &mut [u64], i: usize, v: u64)
     ensures { report.new ≡ over report.old i (v ∷ []) }

@@ -15,7 +15,9 @@ pub struct Output<W> {
 }
 
 impl<W: Write> Output<W> {
-    pub fn new(to: W) -> Output<W> {
+    pub fn new(to: W) -> Output<W>
+        ensures { result.used ≡ 0 }
+    {
         Output {
             to,
             bytes: [0; ROOM],

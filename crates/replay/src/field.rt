@@ -44,12 +44,10 @@ pub fn printed(
     hex(text, out)
 }
 
-const DIGITS: [u8; 16] = *b"0123456789abcdef";
-
-// Two hex digits for each byte, from a table: by `{b:02x}` the digits of a name take longer than the name.
+// Two hex digits for each byte.
 fn hex(bytes: &[u8], out: &mut impl Write) -> io::Result<()> {
     for b in bytes {
-        out.write_all(&[DIGITS[usize::from(b >> 4)], DIGITS[usize::from(b & 15)]])?;
+        write!(out, "{b:02x}")?;
     }
     Ok(())
 }

@@ -3,4 +3,4 @@ use Rattle.exports.proofs.ReportLaws.{number-refused}
 use Rattle.exports.proofs.vault_check.Goals as goal
 
 pub returns-in-Err : goal.returns-in-Err
-returns-in-Err c = number-refused c.args.symbol.now c.check.ensures c.in-Err.is c.number.ensures
+returns-in-Err c = number-refused c.args.symbol.now c.check.ensures.number c.in-Err.is c.number.ensures
