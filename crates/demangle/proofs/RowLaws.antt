@@ -26,25 +26,20 @@ use Rattle.demangle.specs.Rows.{check_number, refusal_number, number_by, number_
 use Rattle.demangle.specs.declared.refusal.Refusal.{Refusal}
 use Rattle.demangle.specs.declared.refusal.Refusal.TheVariants.{Invalid, RecursedTooDeep, TooLong, NoRoom}
 
--- ---- a refusal's number
-module _ (e : Refusal) where
-  pub number-invalid : e ≡ Invalid → 1 ≡ refusal_number e
-  unfolding refusal_number
-  number-invalid h = rw h
+-- ---- a refusal's number and its row are the verdict's
+number-same : (e : Refusal) → refusal_number e ≡ number_by (Err e)
+unfolding refusal_number number_by
+number-same Invalid = refl
+number-same RecursedTooDeep = refl
+number-same TooLong = refl
+number-same NoRoom = refl
 
-  pub number-deep : e ≡ RecursedTooDeep → 2 ≡ refusal_number e
-  unfolding refusal_number
-  number-deep h = rw h
-
-  pub number-long : e ≡ TooLong → 3 ≡ refusal_number e
-  unfolding refusal_number
-  number-long h = rw h
-
-  pub number-full : e ≡ NoRoom → 4 ≡ refusal_number e
-  unfolding refusal_number
-  number-full h = rw h
-
-pub ruleset number_laws = (number-invalid, number-deep, number-long, number-full, rules)
+row-same : (mode : Mode) (s b : List ℕ) (e : Refusal) → answer (Err e) b ≡ row_by mode s b (Err e)
+unfolding answer row_by
+row-same mode s b Invalid = refl
+row-same mode s b RecursedTooDeep = refl
+row-same mode s b TooLong = refl
+row-same mode s b NoRoom = refl
 
 -- ---- the check; v is what was judged
 module _ (s : List ℕ) {v : Verdict} (judged : v ≡ verdict_of s) where
@@ -53,8 +48,8 @@ module _ (s : List ℕ) {v : Verdict} (judged : v ≡ verdict_of s) where
   check_done h = rw (← judged, h)
 
   pub check-refused : {e : Refusal} → v ≡ Err e → check_number (Err e) ≡ number_of s
-  unfolding check_number number_of number_by
-  check-refused h = rw (← judged, h)
+  unfolding check_number number_of
+  check-refused {e} h = number-same e ∙ ap number_by (sym h ∙ judged)
 
   -- where the suffix starts
   pub start-done : {k i : ℕ} → v ≡ Ok (k, i) → k + i ≡ suffix_from s
@@ -188,7 +183,7 @@ module _ (mode : Mode) (s b : List ℕ) {v : Verdict} (judged : v ≡ verdict_of
     print-done h = h ∙ rw (tail-bytes k s, ← judged, known)
 
   pub print-refused : {e : Refusal} → v ≡ Err e → answer (Err e) b ≡ row_of mode s b
-  unfolding row_of row_by
-  print-refused h = rw (← judged, h)
+  unfolding row_of
+  print-refused {e} h = row-same mode s b e ∙ ap (row_by mode s b) (sym h ∙ judged)
 
 pub ruleset print_laws = (print-within, print-done, print-refused, rules)

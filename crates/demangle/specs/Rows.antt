@@ -26,7 +26,10 @@ check_number (Err e) = refusal_number e
 
 unfoldable pub number_by : Verdict → ℕ
 number_by (Ok v) = 0
-number_by (Err e) = refusal_number e
+number_by (Err Invalid) = 1
+number_by (Err RecursedTooDeep) = 2
+number_by (Err TooLong) = 3
+number_by (Err NoRoom) = 4
 
 unfoldable pub number_of : List ℕ → ℕ
 number_of s = number_by (verdict_of s)
@@ -84,7 +87,10 @@ shown mode s b =
 -- rows 1 to 3 leave the buffer b as it was; no verdict is NoRoom (`never-full` in proofs/WithinLaws.antt)
 unfoldable pub row_by : Mode → List ℕ → List ℕ → Verdict → Row
 row_by mode s b (Ok (k, i)) = shown mode (drop k s) b
-row_by mode s b (Err e) = answer (Err e) b
+row_by mode s b (Err Invalid) = row 1 0 unknown b
+row_by mode s b (Err RecursedTooDeep) = row 2 0 unknown b
+row_by mode s b (Err TooLong) = row 3 0 unknown b
+row_by mode s b (Err NoRoom) = row 4 (length b) unknown b
 
 unfoldable pub row_of : Mode → List ℕ → List ℕ → Row
 row_of mode s b = row_by mode s b (verdict_of s)

@@ -28,7 +28,7 @@ fn prefix(symbol: &[u8]) -> Option<usize>
     None
 }
 
-// What the library's test says, in the definition's words: one fact that both callers and the wrong edit of it are held to.
+// What the library's test says, in the definition's words.
 #[tactic(auto, using(crate::proofs::PrefixLaws::ascii_is))]
 fn ascii(s: &[u8]) -> bool
     ensures { result ≡ all_ascii s.now }
