@@ -1,5 +1,5 @@
 -- What `path`, `second`, `reading` and `judge` answer. Assumes nothing.
-use Rattle.std.specs.Prelude.{Option, Some, None, Ok, Err}
+use Rattle.std.specs.Prelude.{Option, Some, None, Ok, Err, max}
 use Rattle.std.specs.Char.{is_ascii_uppercase}
 use mathlib.Core.Path.{◌≡◌, refl, ap, ◌∙◌}
 use mathlib.Core.Bool.{Bool, true, false, true≢false}
@@ -15,7 +15,7 @@ use Rattle.pieces.specs.Piece.{render}
 use Rattle.printer.specs.Says.{U, Res, ok, bad, Says}
 use Rattle.printer.specs.Lay.{State, state_of, World, world, at, lay, lays, place_of, error_of, damage_of, doing, fresh, code_of}
 use Rattle.printer.specs.Model.{level}
-use Rattle.printer.specs.declared.state.Status.TheVariants.{Going, Invalid as IsInvalid, RecursedTooDeep as IsDeep, Full}
+use Rattle.printer.specs.declared.state.Status.TheVariants.{Going, Invalid as IsInvalid, RecursedTooDeep as IsDeep, Full, Other}
 use Rattle.printer.specs.declared.state.Printer.{Printer}
 use Rattle.demangle.specs.Accept.{Reached, levels, most, prefix_of, is_upper, all_ascii, reached_of, path_at, second_at, behind_at, reading_of, verdict_by, verdict_at, verdict_of}
 use Rattle.demangle.specs.declared.refusal.Refusal.{Refusal}
@@ -42,7 +42,7 @@ reached-invalid (ok a j d o) k = absurd (omega (arith, k))
 reached-invalid (bad a zero j d o) k = refl
 reached-invalid (bad a (suc x) j d o) k = absurd (omega (arith, k))
 
-reached-deep : (r : Res U) → 2 ≡ error_of r → Err RecursedTooDeep ≡ reached_of r
+reached-deep : (r : Res U) → 2 ≤ error_of r → Err RecursedTooDeep ≡ reached_of r
 reached-deep (ok a j d o) k = absurd (omega (arith, k))
 reached-deep (bad a zero j d o) k = absurd (omega (arith, k))
 reached-deep (bad a (suc x) j d o) k = refl
@@ -71,12 +71,16 @@ module _ (s : List ℕ) (i : ℕ) (p q : Printer) (new : state_of p.st ≡ fresh
 
   pub path-deep : q.st.status ≡ IsDeep → Err RecursedTooDeep ≡ path_at s i
   unfolding path_at
-  path-deep h = reached-deep ((checked s).run i) (rw h at error-after)
+  path-deep h = let e : 2 ≡ error_of ((checked s).run i) = rw h at error-after in reached-deep ((checked s).run i) (omega (arith, e))
+
+  pub path-other : {n : ℕ} → q.st.status ≡ Other n → Err RecursedTooDeep ≡ path_at s i
+  unfolding path_at
+  path-other {n} h = let e : max n 4 ≡ error_of ((checked s).run i) = rw h at error-after in reached-deep ((checked s).run i) (omega (arith, e))
 
   pub path-full : q.st.status ≡ Full → Err RecursedTooDeep ≡ path_at s i
   path-full h = absurd (true≢false (rw h at (ap (λ (x : State). x.full) after)))
 
-pub ruleset path_laws = (path-at, path-invalid, path-deep, path-full, rules)
+pub ruleset path_laws = (path-at, path-invalid, path-deep, path-other, path-full, rules)
 
 -- ---- the second path, where an upper-case letter stands behind the first
 module _ (s : List ℕ) (i : ℕ) {b : ℕ} (byte : b ≡ get_or s i 0) where

@@ -1,17 +1,18 @@
 -- The prefix, upper-case letters and ASCII: what the library's methods answer is what the definitions say. Assumes nothing.
-use Rattle.std.specs.Prelude.{Option, Some, None, MatchBool}
+use Rattle.std.specs.Prelude.{Option, Some, None, max}
 use Rattle.std.specs.Cmp.{nat_eq_equiv}
 use Rattle.std.specs.List.{starts_with}
-use Rattle.std.specs.Str.{IsAscii, IsNotAscii}
 use mathlib.Core.Path.{◌≡◌, refl, sym, ap, ◌∙◌}
-use mathlib.Core.Bool.{Bool, true, false, true≢false, ◌&&◌}
+use mathlib.Core.Bool.{Bool, true, false, true≢false, ◌&&◌, and-true}
 use mathlib.Core.List.{List, [], ◌∷◌}
-use Prim.Native.Nat.{ℕ, zero, suc, ◌≤◌}
+use Prim.Native.Nat.{ℕ, suc, ◌+◌, ◌≤◌, ◌<◌}
 use native.Mathlib.Omega.{arith}
+use native.Mathlib.Numerals.{add-one}
 use borrow.Author.Rules.{rules}
-use borrow.Author.Tests.{lt-ltb, le-ltb}
-use lib.Dec.{eqb, ltb}
-use lib.ListN.{length, get_or}
+use borrow.Author.Tests.{leb-true, leb-false, lt-ltb, le-ltb, ltb-true, ltb-false}
+use lib.Dec.{leb, eqb, ltb}
+use lib.ListN.{length, get_or, drop, drop_of_length-le}
+use lib.Seq.{drop-cons}
 use Rattle.parser.specs.Digits.{if-then}
 use Rattle.printer.specs.Says.{U}
 use Rattle.demangle.specs.Accept.{starts, prefix_of, all_ascii}
@@ -73,23 +74,54 @@ prefix-within s = go (starts (82 ∷ []) s) (starts (95 ∷ 82 ∷ []) s) (start
     go false false true h k l = starts-within _ s l
     go false false false h k l = tt
 
--- ---- ASCII
-ascii-all : (s : List ℕ) → IsAscii s → true ≡ all_ascii s
-unfolding all_ascii
-ascii-all [] h = refl
-ascii-all (c ∷ s) h = rw (lt-ltb c 128 (h 0)) (ascii-all s (λ i. h (suc i)))
+-- ---- ASCII: the greatest byte before a place stands for all of them
+pub record Ascii (s : List ℕ) (i top : ℕ) : Type 0 where
+  pub same : all_ascii s ≡ all_ascii (top ∷ drop i s)
 
-and-no : (t : Bool) → t && false ≡ false
-and-no true = refl
-and-no false = refl
+-- of two bytes the greater counts
+module _ (a b : ℕ) (s : List ℕ) where
+  first-counts : b ≤ a → all_ascii (a ∷ b ∷ s) ≡ all_ascii (a ∷ s)
+  unfolding all_ascii
+  first-counts h = go (ltb a 128) refl
+    where
+      go : (t : Bool) → ltb a 128 ≡ t → all_ascii (a ∷ b ∷ s) ≡ all_ascii (a ∷ s)
+      go true k = rw (k, lt-ltb b 128 (omega (arith, ltb-true a 128 k)))
+      go false k = rw k
 
-ascii-not : (s : List ℕ) (i : ℕ) → 128 ≤ get_or s i 0 → false ≡ all_ascii s
-unfolding all_ascii
-ascii-not [] i h = absurd (omega arith)
-ascii-not (c ∷ s) zero h = rw (le-ltb c 128 h)
-ascii-not (c ∷ s) (suc i) h = sym (and-no (ltb c 128)) ∙ ap (λ (t : Bool). ltb c 128 && t) (ascii-not s i h)
+  second-counts : a < b → all_ascii (a ∷ b ∷ s) ≡ all_ascii (b ∷ s)
+  unfolding all_ascii
+  second-counts h = go (ltb a 128) refl
+    where
+      go : (t : Bool) → ltb a 128 ≡ t → all_ascii (a ∷ b ∷ s) ≡ all_ascii (b ∷ s)
+      go true k = rw k
+      go false k = rw (k, le-ltb b 128 (omega (arith, ltb-false a 128 k)))
 
--- t is what the library's test answered
-pub ascii_is : (s : List ℕ) (t : Bool) → MatchBool t (IsAscii s) (IsNotAscii s) → t ≡ all_ascii s
-ascii_is s true h = ascii-all s h
-ascii_is s false h = ascii-not s h.0 h.1
+module _ (s : List ℕ) where
+  pub ascii-start : Ascii s 0 0
+  ascii-start = record { same = unfold all_ascii in refl }
+
+  module _ (i top : ℕ) (before : Ascii s i top) where
+    ascii-keep : i < length s → get_or s i 0 ≤ top → Ascii s (i + 1) top
+    ascii-keep h k = record { same = before.same ∙ rw (drop-cons s i 0 h, add-one) (first-counts top (get_or s i 0) (drop (suc i) s) k) }
+
+    ascii-raise : i < length s → top < get_or s i 0 → Ascii s (i + 1) (get_or s i 0)
+    ascii-raise h k = record { same = before.same ∙ rw (drop-cons s i 0 h, add-one) (second-counts top (get_or s i 0) (drop (suc i) s) k) }
+
+    pub ascii-next : i < length s → Ascii s (i + 1) (max top (get_or s i 0))
+    ascii-next h = go (leb (get_or s i 0) top) refl
+      where
+        go : (t : Bool) → leb (get_or s i 0) top ≡ t → Ascii s (i + 1) (max top (get_or s i 0))
+        go true k =
+            let n : get_or s i 0 ≤ top = leb-true (get_or s i 0) top k in
+            let e : max top (get_or s i 0) ≡ top = omega (arith, n) in
+            rw e (ascii-keep h n)
+        go false k =
+            let n : top < get_or s i 0 = leb-false (get_or s i 0) top k in
+            let e : max top (get_or s i 0) ≡ get_or s i 0 = omega (arith, n) in
+            rw e (ascii-raise h n)
+
+    pub ascii-end : length s ≤ i → ltb top 128 ≡ all_ascii s
+    unfolding all_ascii
+    ascii-end h = sym (before.same ∙ rw (drop_of_length-le s h) (and-true (ltb top 128)))
+
+pub ruleset ascii_laws = (ascii-start, ascii-next, ascii-end, rules)

@@ -1,5 +1,5 @@
 -- What `check`, `suffix` and `print` answer. Assumes nothing.
-use Rattle.std.specs.Prelude.{Some, Ok, Err}
+use Rattle.std.specs.Prelude.{Some, Ok, Err, max}
 use mathlib.Core.Path.{◌≡◌, refl, sym, ap, ◌∙◌}
 use mathlib.Core.Bool.{Bool, true, false, not, true≢false}
 use mathlib.Core.List.{List}
@@ -17,7 +17,7 @@ use Rattle.printer.specs.Over.{over}
 use Rattle.printer.specs.Lay.{State, state_of, World, world, at, lay, lays, doing, fitted, full_state, text, place_of, error_of, damage_of, fresh, code_of, filled}
 use Rattle.printer.specs.Model.{level}
 use Rattle.printer.specs.declared.state.Status.{Status}
-use Rattle.printer.specs.declared.state.Status.TheVariants.{Going, Invalid as IsInvalid, RecursedTooDeep as IsDeep, Full}
+use Rattle.printer.specs.declared.state.Status.TheVariants.{Going, Invalid as IsInvalid, RecursedTooDeep as IsDeep, Full, Other}
 use Rattle.printer.specs.declared.state.Printer.{Printer}
 use Rattle.printer.proofs.OverLaws.{length_over}
 use Rattle.demangle.proofs.WithinLaws.{accepted-within}
@@ -118,6 +118,10 @@ unsound-by : (r : Res U) {x : ℕ} → suc x ≡ error_of r → false ≡ soundl
 unsound-by (ok a j e o) h = absurd (omega (arith, h))
 unsound-by (bad a y j e o) h = refl
 
+unsound-above : (r : Res U) (n : ℕ) → max n 4 ≡ error_of r → false ≡ soundly r
+unsound-above (ok a j e o) n h = absurd (omega (arith, h))
+unsound-above (bad a y j e o) n h = refl
+
 abbrev printed : List ℕ → Says U
 printed s = (level s levels).path true true 0
 
@@ -169,6 +173,7 @@ module _ (mode : Mode) (s o e : List ℕ) (p q : Printer) (lent : p.out.now ≡ 
         go IsInvalid h = done-is (rw h) false (unsound-by (first_path s) (rw h at (error-is (rw h))))
         go IsDeep h = done-is (rw h) false (unsound-by (first_path s) (rw h at (error-is (rw h))))
         go Full h = absurd (full h)
+        go (Other n) h = done-is (rw h) false (unsound-above (first_path s) n (rw h at (error-is (rw h))))
 
 pub ruleset text_laws = (text-full, text-done, text-damaged, rules)
 

@@ -1,6 +1,6 @@
 -- Document 01's rows: the number and the values of each answer, which row a call must meet, and what the buffer holds afterwards.
 -- Assumes nothing: these are definitions.
-use Rattle.std.specs.Prelude.{Some, Result, Ok, Err, Bool, true, false, not, List, ℕ, ◌+◌, leb, length, drop}
+use Rattle.std.specs.Prelude.{Some, Result, Ok, Err, Bool, true, false, not, List, ℕ, ◌+◌, leb, length, drop, codes}
 use Rattle.parser.specs.Digits.{if-then}
 use Rattle.pieces.specs.Piece.{render}
 use Rattle.pieces.specs.declared.mode.Mode.{Mode}
@@ -19,6 +19,13 @@ refusal_number Invalid = 1
 refusal_number RecursedTooDeep = 2
 refusal_number TooLong = 3
 refusal_number NoRoom = 4
+
+-- how a refusal is named in a text
+abbrev pub refusal_name : Refusal → List ℕ
+refusal_name Invalid = codes "Invalid"
+refusal_name RecursedTooDeep = codes "RecursedTooDeep"
+refusal_name TooLong = codes "TooLong"
+refusal_name NoRoom = codes "NoRoom"
 
 unfoldable pub check_number : Result U Refusal → ℕ
 check_number (Ok u) = 0

@@ -1,6 +1,6 @@
 // Why a symbol has no answer, and document 01's numbers for it.
-ghost use Rattle.std.specs.Prelude.{◌≡◌};
-ghost use Rattle.demangle.specs.Rows.{refusal_number};
+ghost use Rattle.std.specs.Prelude.{◌≡◌, Some};
+ghost use Rattle.demangle.specs.Rows.{refusal_number, refusal_name};
 
 use std::fmt;
 
@@ -26,15 +26,23 @@ impl Refusal {
             Refusal::NoRoom => 4,
         }
     }
-}
 
-impl fmt::Display for Refusal {
-    fn fmt<W: fmt::Write>(&self, f: &mut fmt::Formatter<W>) -> fmt::Result {
-        f.write_str(match self {
+    pub fn name(self) -> &'static str
+        ensures { result.now ≡ refusal_name self }
+    {
+        match self {
             Refusal::Invalid => "Invalid",
             Refusal::RecursedTooDeep => "RecursedTooDeep",
             Refusal::TooLong => "TooLong",
             Refusal::NoRoom => "NoRoom",
-        })
+        }
+    }
+}
+
+impl fmt::Display for Refusal {
+    ghost output = { λ r. Some (refusal_name r) };
+
+    fn fmt<W: fmt::Write>(&self, f: &mut fmt::Formatter<W>) -> fmt::Result {
+        f.write_str(self.name())
     }
 }

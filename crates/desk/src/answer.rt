@@ -50,5 +50,6 @@ fn accepted(text: &[u8], whole: bool, out: &mut impl Write) -> io::Result<()> {
 }
 
 fn refused(refusal: Refusal, out: &mut impl Write) -> io::Result<()> {
-    write!(out, "{refusal}\t(no name)\t")
+    out.write_all(refusal.name().as_bytes())?;
+    out.write_all(b"\t(no name)\t")
 }

@@ -11,7 +11,7 @@ mod help;
 mod options;
 
 use demangle::print::Mode;
-use lines::answers::{Failure, answer_lines};
+use lines::answers::{Failure, Sends, answer_lines};
 use lines::input::Line;
 use lines::output::Output;
 use options::Wish;
@@ -22,9 +22,13 @@ fn names(rt: &(impl Input + Print), mode: Mode) -> Result<(), Failure> {
     let mut line = Line::<131072>::new();
     let mut room = [0u8; 65536];
     let mut out = Output::new(io::writer(rt));
-    answer_lines(&mut rt.reader(), &mut line, &mut out, |line, out| {
-        answer::line(line, mode, &mut room, out)
-    })
+    answer_lines(
+        &mut rt.reader(),
+        &mut line,
+        &mut out,
+        Sends::EachRead,
+        |line, out| answer::line(line, mode, &mut room, out),
+    )
 }
 
 fn usage(rt: &impl Print) -> Result<(), Failure> {

@@ -1,4 +1,6 @@
 // The program's arguments.
+ghost use Rattle.std.specs.Prelude.{◌≤◌, length, IfSome};
+
 use demangle::print::Mode;
 use lines::output::Output;
 use std::env::FillError;
@@ -14,7 +16,9 @@ pub enum Wish {
 }
 
 // An argument, by its number, put into a buffer; none behind the last. One that is longer than the buffer comes as an empty one.
-fn argument<'a>(rt: &impl Env, i: usize, text: &'a mut [u8]) -> Option<&'a [u8]> {
+fn argument<'a>(rt: &impl Env, i: usize, text: &'a mut [u8]) -> Option<&'a [u8]>
+    ensures { IfSome result (λ s. length s.now ≤ length text.old) }
+{
     match rt.arg(i, text) {
         Ok(n) => Some(&text[..n]),
         Err(FillError::TooLong) => Some(b""),

@@ -11,14 +11,28 @@ pub enum Failure {
     Write(io::Error),
 }
 
+// When answers are written: what was read is answered before more is waited for, so that whoever types a line sees its answer; or only
+// where the buffer is full and at the end, so that a caller may write many lines before it reads.
+#[derive(Clone, Copy, Debug, PartialEq, Eq)]
+pub enum Sends {
+    EachRead,
+    WhenFull,
+}
+
 // Has each line answered: a last one with no line end, too, unless nothing stands there or the input cannot be read to its end, since half
-// a line asks something else. The answers to what was read go out before more is waited for: whoever types a line sees its answer.
+// a line asks something else.
 pub fn answer_lines<
     R: Read,
     W: Write,
     const N: usize,
     F: FnMut(Result<&[u8], &[u8]>, &mut Output<W>) -> io::Result<()>,
->(input: &mut R, line: &mut Line<N>, out: &mut Output<W>, mut answer: F) -> Result<(), Failure>
+>(
+    input: &mut R,
+    line: &mut Line<N>,
+    out: &mut Output<W>,
+    sends: Sends,
+    mut answer: F,
+) -> Result<(), Failure>
     requires { F.IsAlwaysCallable answer }
 {
     let mut chunk = [0u8; 65536];
@@ -36,7 +50,9 @@ pub fn answer_lines<
                 line.push(*b);
             }
         }
-        out.flush().map_err(Failure::Write)?;
+        if sends == Sends::EachRead {
+            out.flush().map_err(Failure::Write)?;
+        }
     }
     if !line.is_empty() {
         answer(line.text(), out).map_err(Failure::Write)?;

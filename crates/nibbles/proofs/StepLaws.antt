@@ -295,4 +295,12 @@ module _ {s : List ℕ} {at : ℕ} (a : Along s at) where
           let w = one-within s at here-is in
           omega (arith, w.on, w.there)
 
-pub ruleset text_laws = (along-start, along-end, along-bad, along-on, along-less, rules)
+-- g is what `octet` answered: a byte, which is a character by itself if it is small
+module _ {s : List ℕ} {at : ℕ} (a : Along s at) (h : at < length s) {g : Option ℕ} (read : g ≡ octet_at s at) {b : ℕ} (known : g ≡ Some b) (small : b < 0x80) where
+  pub quick-on : Along s (at + 2)
+  quick-on = along-on a h {r = Some (b, at + 2)} (first-ascii s at g read b known small) {c = b} {next = at + 2} refl
+
+  pub quick-less : length s - (at + 2) < length s - at
+  quick-less = along-less a h {r = Some (b, at + 2)} (first-ascii s at g read b known small) {c = b} {next = at + 2} refl
+
+pub ruleset text_laws = (along-start, along-end, along-bad, along-on, along-less, octet-fits, quick-on, quick-less, rules)

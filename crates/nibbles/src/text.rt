@@ -42,6 +42,7 @@ fn more(s: &[u8], at: usize, v: u64) -> Option<u64>
 // The character of which so many continuation bytes are left, at a place, after the value so far, and the next place. A value
 // is overlong below `low`, and otherwise a character if it is a scalar.
 #[tactic(auto, using(crate::proofs::StepLaws::tail_laws))]
+#[inline(never)]
 fn tail(s: &[u8], at: usize, left: u64, low: u64, v: u64) -> Option<(u32, usize)>
     requires v_bound { v < 0x40 }
     requires left_bound { left ≤ 3 }
@@ -62,6 +63,7 @@ fn tail(s: &[u8], at: usize, left: u64, low: u64, v: u64) -> Option<(u32, usize)
 
 // The first character at a place. Its first byte says how many follow, and the least value that needs as many.
 #[tactic(auto, using(crate::proofs::StepLaws::first_laws))]
+#[inline(always)]
 fn first(s: &[u8], at: usize) -> Option<(u32, usize)>
     ensures { result ≡ first_at s.now at }
 {
@@ -93,6 +95,13 @@ pub fn is_text(s: &[u8]) -> bool
     let mut at = 0;
     // a `for` is no plainer: a character takes as many nibbles as its first byte says
     while at < s.len() {
+        // most characters are one byte, which needs no more than this
+        if let Some(b) = octet(s, at)
+            && b < 0x80
+        {
+            at += 2;
+            continue;
+        }
         let Some((_, next)) = first(s, at) else {
             return false;
         };

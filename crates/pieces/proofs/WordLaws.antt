@@ -1,17 +1,20 @@
 -- The fixed words: the number of each, and the bytes of that number. Assumes nothing.
 use mathlib.Core.Path.{◌≡◌, refl, sym, ◌∙◌}
 use mathlib.Core.Bool.{Bool, true}
-use mathlib.Core.List.{List}
-use Prim.Native.Nat.{ℕ}
+use mathlib.Core.List.{List, [], ◌∷◌, map}
+use Prim.Native.Nat.{ℕ, zero, suc, ◌≤◌, ◌<◌}
+use native.Mathlib.Omega.{arith}
 use borrow.Author.Rules.{rules}
 use lib.Dec.{T}
-use Rattle.std.specs.Prelude.{Option, Some, None}
+use lib.ListN.{get_or, length}
+use Rattle.std.specs.Prelude.{Option, Some, None, Ok}
 use Rattle.pieces.specs.declared.words.Word.{Word}
 use Rattle.pieces.specs.declared.words.Word.TheVariants.{Invalid, Deep, Splat}
 use Rattle.pieces.specs.Laid.{Put, Wrote}
 use Rattle.pieces.specs.Packed.{bytes_in, bytes_of, little, packed}
-use Rattle.pieces.specs.Words.{ascii, word_at}
+use Rattle.pieces.specs.Words.{ascii, word_at, words, word_by}
 use Rattle.pieces.proofs.TableLaws.{eq_list, eq_list→eq}
+use Rattle.pieces.proofs.WritingLaws.{wrote_none}
 
 -- a word's number spells it: a test that is computed word by word
 abbrev spells : Option ℕ → List ℕ → Bool
@@ -52,3 +55,23 @@ word_last w {o} q s i d k t = rw (longer w (go o q s) i d, ← k) t
     go (Some v) q s = absurd (s v refl)
 
 pub ruleset word_laws = (word_short, word_text, word_last, rules)
+
+-- ---- a word by its number
+in-order : (ws : List Word) (k : ℕ) (w : Word) → k < length ws → word_at (get_or ws k w) ≡ get_or (map word_at ws) k []
+in-order [] k w h = absurd (omega arith)
+in-order (x ∷ ws) zero w h = refl
+in-order (x ∷ ws) (suc k) w h = in-order ws k w (omega arith)
+
+past-all : (ws : List Word) (k : ℕ) → length ws ≤ k → get_or (map word_at ws) k [] ≡ []
+past-all [] k h = refl
+past-all (x ∷ ws) zero h = absurd (omega arith)
+past-all (x ∷ ws) (suc k) h = past-all ws k (omega arith)
+
+module _ (k : ℕ) where
+  pub word_numbered : (w : Word) {d e : List ℕ} {r : Put} → k < 52 → Wrote (word_at (get_or words k w)) d e r → Wrote (word_by k) d e r
+  unfolding word_by words
+  word_numbered w h t = rw (in-order words k w h) at t
+
+  pub word_beyond : (d : List ℕ) → 52 ≤ k → Wrote (word_by k) d d (Ok 0)
+  unfolding word_by words
+  word_beyond d h = rw (past-all words k h) (wrote_none d)

@@ -70,17 +70,6 @@ laid-over [] u (y ∷ d) h = absurd (omega arith)
 laid-over (x ∷ t) u [] h = refl
 laid-over (x ∷ t) u (y ∷ d) h = ap (λ (l : List ℕ). x ∷ l) (laid-over t u d (omega arith))
 
-laid-cut : (t d : List ℕ) → length d ≤ length t → take (length d) t ≡ laid t d
-unfolding laid
-laid-cut [] [] h = refl
-laid-cut [] (y ∷ d) h = absurd (omega arith)
-laid-cut (x ∷ t) [] h = refl
-laid-cut (x ∷ t) (y ∷ d) h = ap (λ (l : List ℕ). x ∷ l) (laid-cut t d (omega arith))
-
-laid-all : (t d : List ℕ) → length t ≤ length d → t ++ drop (length t) d ≡ laid t d
-unfolding laid
-laid-all t d h = sym (ap (λ (l : List ℕ). laid l d) (sym (append-nil t)) ∙ laid-fit t [] d h)
-
 same_size : {t d e : List ℕ} {r : Put} → Wrote t d e r → length e ≡ length d
 same_size {t} {d} w = ap length w.left ∙ length-laid t d
 
@@ -100,20 +89,6 @@ byte_full b [] h = record { left = refl; said = sym (room-none 1 0 (omega arith)
 byte_full b (y ∷ d) h = absurd (omega arith)
 
 pub ruleset byte_laws = (byte-done, byte_full, rules)
-
--- ---- the common length is copied
-module _ (t d : List ℕ) {f : List ℕ} {n : ℕ} (s : f ≡ take n t) (m : n ≡ min (length t) (length d)) where
-  pub run_all : length t ≤ n → Wrote t d (f ++ drop n d) (Ok n)
-  run_all h =
-      let e : n ≡ length t = omega arith in
-      record { left = rw (s, take_all n t h, e) (laid-all t d (omega arith)); said = ap Ok e ∙ sym (room-done (length t) (length d) (omega arith)) }
-
-  pub run_part : n < length t → Wrote t d (f ++ drop n d) (Err no_room)
-  run_part h =
-      let e : n ≡ length d = omega arith in
-      record { left = rw (s, e, drop_of_length-le d {i = length d} (omega arith), append-nil) (laid-cut t d (omega arith)); said = sym (room-none (length t) (length d) (omega arith)) }
-
-pub ruleset run_laws = (run_all, run_part, rules)
 
 -- ---- a piece after a text that is written, in the rest of the buffer
 -- the rest of a buffer from a place on, as it is lent, and the buffer when it is back

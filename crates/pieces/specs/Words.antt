@@ -1,5 +1,5 @@
 -- The fixed words. Assumes nothing: these are definitions.
-use Rattle.std.specs.Prelude.{List, [], ◌∷◌, ℕ}
+use Rattle.std.specs.Prelude.{List, [], ◌∷◌, ℕ, map, get_or}
 use Prim.Native.Char.{code}
 use Prim.Native.String as Text
 use Prim.Native.String.{String}
@@ -66,6 +66,19 @@ word_at C = ascii "C"
 word_at For = ascii "for<"
 word_at ForEnd = ascii "> "
 word_at Tick = ascii "'"
+
+-- the words by number, and the text of a number: none past the last word's
+unfoldable pub words : List Word
+words =
+    Invalid ∷ Deep ∷ Ask ∷ Colons ∷ Special ∷ Closure ∷ Shim ∷ Colon ∷ Hash ∷ Close ∷ Less ∷ As ∷
+    More ∷ ValueLess ∷ CommaBlank ∷ Plus ∷ Ref ∷ Mut ∷ PtrConst ∷ PtrMut ∷ Bracket ∷ Semicolon ∷ BracketEnd ∷ Paren ∷
+    Comma ∷ ParenEnd ∷ Unsafe ∷ Extern ∷ ExternEnd ∷ Fn ∷ Arrow ∷ Dyn ∷ Is ∷ Splat ∷ Equals ∷ Range ∷
+    Or ∷ Null ∷ Underscore ∷ Minus ∷ False ∷ True ∷ Brace ∷ Star ∷ Fields ∷ Field ∷ FieldsEnd ∷ Hex ∷
+    C ∷ For ∷ ForEnd ∷ Tick ∷ []
+
+unfoldable pub word_by : ℕ → List ℕ
+unfolding words
+word_by k = get_or (map word_at words) k []
 
 -- their names, as other specs have them
 abbrev pub invalid : Word

@@ -12,16 +12,17 @@ pub struct NoRoom;
 // What a writer answers: how many bytes it wrote.
 pub type Put = Result<usize, NoRoom>;
 
-// A run of bytes.
+// A run of bytes. Byte by byte, since the library's copy needs memcpy, which the archive for C is to do without.
 pub fn put_run(out: &mut [u8], run: &[u8]) -> Put
     ensures { Wrote run.now out.old out.new result }
 {
-    let n = run.len().min(out.len());
-    out[..n].copy_from_slice(&run[..n]);
-    if n < run.len() {
-        return Err(NoRoom);
+    for (i, b) in run.iter().enumerate() {
+        if i >= out.len() {
+            return Err(NoRoom);
+        }
+        out[i] = *b;
     }
-    Ok(n)
+    Ok(run.len())
 }
 
 // One byte.

@@ -2,7 +2,7 @@
 ghost use Rattle.pieces.specs.Laid.{Wrote};
 ghost use Rattle.std.specs.Prelude.{◌≡◌};
 ghost use Rattle.pieces.specs.Packed.{packed};
-ghost use Rattle.pieces.specs.Words.{word_at};
+ghost use Rattle.pieces.specs.Words.{word_at, word_by};
 
 use crate::put::{Put, put_packed, put_run};
 
@@ -123,18 +123,85 @@ impl Word {
             Word::Tick => Some(0x27),
         }
     }
+
+    // The word's text.
+    pub fn lay(self, out: &mut [u8]) -> Put
+        ensures { Wrote (word_at self) out.old out.new result }
+    {
+        if let Some(v) = self.packed() {
+            return put_packed(out, v);
+        }
+        match self {
+            Word::Invalid => put_run(out, b"{invalid syntax}"),
+            Word::Deep => put_run(out, b"{recursion limit reached}"),
+            _ => put_run(out, b"#[splat] "),
+        }
+    }
 }
 
-// A word's text.
-pub fn put_word(out: &mut [u8], w: Word) -> Put
-    ensures { Wrote (word_at w) out.old out.new result }
+// The words by number: each at its own.
+const WORDS: [Word; 52] = [
+    Word::Invalid,
+    Word::Deep,
+    Word::Ask,
+    Word::Colons,
+    Word::Special,
+    Word::Closure,
+    Word::Shim,
+    Word::Colon,
+    Word::Hash,
+    Word::Close,
+    Word::Less,
+    Word::As,
+    Word::More,
+    Word::ValueLess,
+    Word::CommaBlank,
+    Word::Plus,
+    Word::Ref,
+    Word::Mut,
+    Word::PtrConst,
+    Word::PtrMut,
+    Word::Bracket,
+    Word::Semicolon,
+    Word::BracketEnd,
+    Word::Paren,
+    Word::Comma,
+    Word::ParenEnd,
+    Word::Unsafe,
+    Word::Extern,
+    Word::ExternEnd,
+    Word::Fn,
+    Word::Arrow,
+    Word::Dyn,
+    Word::Is,
+    Word::Splat,
+    Word::Equals,
+    Word::Range,
+    Word::Or,
+    Word::Null,
+    Word::Underscore,
+    Word::Minus,
+    Word::False,
+    Word::True,
+    Word::Brace,
+    Word::Star,
+    Word::Fields,
+    Word::Field,
+    Word::FieldsEnd,
+    Word::Hex,
+    Word::C,
+    Word::For,
+    Word::ForEnd,
+    Word::Tick,
+];
+
+// The text of the word that has a number; nothing from 52 on, where there is none.
+pub fn put_word(out: &mut [u8], k: usize) -> Put
+    ensures { Wrote (word_by k) out.old out.new result }
 {
-    if let Some(v) = w.packed() {
-        return put_packed(out, v);
-    }
-    match w {
-        Word::Invalid => put_run(out, b"{invalid syntax}"),
-        Word::Deep => put_run(out, b"{recursion limit reached}"),
-        _ => put_run(out, b"#[splat] "),
+    if k < WORDS.len() {
+        WORDS[k].lay(out)
+    } else {
+        Ok(0)
     }
 }

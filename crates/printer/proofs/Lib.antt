@@ -1,6 +1,7 @@
 -- Laws that the proofs of `printer` cite.
 pub mod ReadLaws
 pub mod StateLaws
+pub mod NumberLaws
 pub mod OverLaws
 pub mod LayLaws
 pub mod PieceLaws

@@ -11,7 +11,7 @@ use Rattle.pieces.specs.declared.put.NoRoom.{NoRoom}
 use Rattle.pieces.specs.declared.mode.Mode.{Mode}
 use Rattle.printer.specs.declared.state.State as Code
 use Rattle.printer.specs.declared.state.Status.{Status}
-use Rattle.printer.specs.declared.state.Status.TheVariants.{Going as IsGoing, Invalid, RecursedTooDeep, Full}
+use Rattle.printer.specs.declared.state.Status.TheVariants.{Going as IsGoing, Invalid, RecursedTooDeep, Full, Other}
 use Rattle.printer.specs.Lay.{State, state_of, filled, code_of, halts, Going, full_state, moved_to, advanced_by, sum_of, settled_by}
 
 clash : {A : Type 0} → true ≡ false → A
@@ -48,6 +48,7 @@ module _ (y : Status) {b : Bool} where
       go Invalid q = clash q
       go RecursedTooDeep q = clash q
       go Full q = clash q
+      go (Other n) q = clash q
 
   pub none_here : b ≡ halts y → b ≡ false → code_of y ≡ 0
   none_here h k = go y (sym h ∙ k)
@@ -57,6 +58,7 @@ module _ (y : Status) {b : Bool} where
       go Invalid q = clash q
       go RecursedTooDeep q = clash q
       go Full q = clash q
+      go (Other n) q = clash q
 
 pub error-else : (y : Status) {b c : Bool} → b ≡ filled y → b ≡ false → c ≡ halts y → c ≡ true → code_of y ≡ 0 → ⊥
 error-else y f nf h k = go y (sym f ∙ nf) (sym h ∙ k)
@@ -66,6 +68,7 @@ error-else y f nf h k = go y (sym f ∙ nf) (sym h ∙ k)
     go Invalid q r e = absurd (omega (arith, e))
     go RecursedTooDeep q r e = absurd (omega (arith, e))
     go Full q r e = clash q
+    go (Other n) q r e = absurd (omega (arith, e))
 
 pub going-here : (c : Code.State) {b : Bool} → b ≡ halts c.status → b ≡ false → Going (state_of c)
 going-here c h k = record { room = room-here c.status h k; none = none_here c.status h k }
@@ -91,6 +94,7 @@ halted-here c h k = record { no = λ f e. go c.status (sym h ∙ k) f e }
     go Invalid q f e = absurd (omega (arith, e))
     go RecursedTooDeep q f e = absurd (omega (arith, e))
     go Full q f e = clash f
+    go (Other n) q f e = absurd (omega (arith, e))
 
 -- ---- whether there is a mode: b is what `is_none` answered
 pub off-here : (m : Option Mode) {b : Bool} → is_some m ≡ not b → b ≡ true → m ≡ None

@@ -1,10 +1,10 @@
 -- What a printer does, in code's terms: a buffer and the code's state, before and after. Assumes nothing: these are definitions.
-use Rattle.std.specs.Prelude.{Option, Some, None, Ok, Err, ℕ, zero, suc, ◌+◌, ◌-◌, List, Bool, true, false, ◌||◌, ◌≡◌, length, leb}
+use Rattle.std.specs.Prelude.{Option, Some, None, Ok, Err, ℕ, zero, suc, ◌+◌, ◌-◌, List, Bool, true, false, ◌||◌, ◌≡◌, length, leb, max}
 use Rattle.printer.specs.Over.{over}
 use Rattle.printer.specs.Says.{U, Res, ok, bad, Says, stop}
 use Rattle.pieces.specs.Piece.{Piece, render}
 use Rattle.printer.specs.declared.state.Status.{Status}
-use Rattle.printer.specs.declared.state.Status.TheVariants.{Going as IsGoing, Invalid, RecursedTooDeep, Full}
+use Rattle.printer.specs.declared.state.Status.TheVariants.{Going as IsGoing, Invalid, RecursedTooDeep, Full, Other}
 use Rattle.printer.specs.declared.state.State as Code
 use Rattle.printer.specs.declared.state.Printer.{Printer}
 use Rattle.pieces.specs.Laid.{Put}
@@ -18,18 +18,20 @@ pub record State : Type 0 where
   pub written : ℕ
   pub full : Bool
 
--- the error as the model numbers it: none, Invalid, RecursedTooDeep; a full buffer has none
+-- the error as the model numbers it: none, Invalid, RecursedTooDeep, or another from 4 on; a full buffer has none
 abbrev pub code_of : Status → ℕ
 code_of IsGoing = 0
 code_of Invalid = 1
 code_of RecursedTooDeep = 2
 code_of Full = 0
+code_of (Other n) = max n 4
 
 abbrev pub filled : Status → Bool
 filled IsGoing = false
 filled Invalid = false
 filled RecursedTooDeep = false
 filled Full = true
+filled (Other n) = false
 
 -- the code's state
 abbrev pub state_of : Code.State → State
@@ -45,6 +47,7 @@ halts IsGoing = false
 halts Invalid = true
 halts RecursedTooDeep = true
 halts Full = true
+halts (Other n) = true
 
 pub record World : Type 0 where
   pub buf : List ℕ

@@ -7,3 +7,4 @@ pub mod Model
 pub mod Parts
 pub mod Over
 pub mod Lay
+pub mod Numbers

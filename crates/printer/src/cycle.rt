@@ -2,16 +2,19 @@
 // call. A function with no `requires` goes by the state that it finds; one that asks for a state with no error and room is called only
 // where that has been looked at.
 // Names are two or three letters; a comment says what each is.
+// Nine of them are kept out of line: what is inlined into `bar` or `ls` is paid for at every level, in stack and in time.
 // `value`, `with`, `sized` and `tag` say what stands there, as the definitions of each have it. Functions that look alike differ in what
 // they call: a closure for that would take the cycle through a call that nothing names, and document 01 wants a named function for each.
 ghost use Rattle.std.specs.Prelude.{◌≡◌, false, length};
 ghost use Rattle.parser.specs.Digits.{if-then};
 ghost use Rattle.printer.specs.Lay.{Going, state_of, at, given, lay, lays, follows};
 ghost use Rattle.printer.specs.Model as g;
+ghost use Rattle.printer.specs.Numbers.{at_numbers, mode_by};
 ghost use Rattle.printer.specs.Parts as part;
 
 use crate::kinds::{Item, Kind, choose};
 use crate::leaf;
+use crate::numbers::{from_numbers, mode_of, to_numbers};
 use crate::read::look;
 use crate::state::Printer;
 use crate::text::Basic;
@@ -19,6 +22,26 @@ use parser::bytes::{eat, namespace};
 use parser::number::{backref, opt_integer_62};
 use pieces::mode::Mode;
 use pieces::words::Word;
+
+// A path, over a state and a mode that are given by number (numbers.rt).
+pub fn path(
+    s: &[u8],
+    out: &mut [u8],
+    st: &mut [usize; 4],
+    value: bool,
+    left: usize,
+    binder: u64,
+    mode: u8,
+)
+    ensures { at_numbers out.new st.new ≡ lay (mode_by mode) ((g.level s.now left).path value (follows (mode_by mode)) binder) (at_numbers out.old st.old) }
+{
+    let mut p = Printer {
+        out,
+        st: from_numbers(st),
+    };
+    p.path(s, value, left, binder, mode_of(mode));
+    *st = to_numbers(p.st);
+}
 
 impl Printer<'_> {
     // A path: counts a level, then goes by its tag.
@@ -187,6 +210,7 @@ impl Printer<'_> {
     // A back reference, behind its `B`.
     #[tactic(auto, using(crate::proofs::CycleLaws::bk_rules))]
     #[cycle(syntax)]
+    #[inline(never)]
     fn bk(&mut self, s: &[u8], kind: Kind, left: usize, binder: u64, mode: Option<Mode>)
         requires { Going (state_of self.old.st) }
         ensures says { at self.new ≡ lay mode (g.back s.now (g.level s.now left) kind (follows mode) binder) (at self.old) }
@@ -360,6 +384,7 @@ impl Printer<'_> {
     // A reference: `&'a mut type`.
     #[tactic(auto, using(crate::proofs::CycleLaws::bor_rules))]
     #[cycle(syntax)]
+    #[inline(never)]
     fn bor(&mut self, s: &[u8], is_mut: bool, left: usize, binder: u64, mode: Option<Mode>)
         ensures says { at self.new ≡ lay mode (g.refer s.now (g.level s.now left) is_mut (follows mode) binder) (at self.old) }
         ensures lent { self.new.out.ghost_name ≡ self.old.out.ghost_name }
@@ -373,6 +398,7 @@ impl Printer<'_> {
     // A word and a type: a pointer, or the result of a function pointer.
     #[tactic(auto, using(crate::proofs::CycleLaws::ptr_rules), unfolding(crate::specs::Model::pointer))]
     #[cycle(syntax)]
+    #[inline(never)]
     fn ptr(&mut self, s: &[u8], k: Word, left: usize, binder: u64, mode: Option<Mode>)
         ensures says { at self.new ≡ lay mode (g.pointer s.now (g.level s.now left) k (follows mode) binder) (at self.old) }
         ensures lent { self.new.out.ghost_name ≡ self.old.out.ghost_name }
@@ -384,6 +410,7 @@ impl Printer<'_> {
     // `[type; length]` or `[type]`
     #[tactic(auto, using(crate::proofs::CycleLaws::arr_rules), unfolding(crate::specs::Model::array))]
     #[cycle(syntax)]
+    #[inline(never)]
     fn arr(&mut self, s: &[u8], sized: bool, left: usize, binder: u64, mode: Option<Mode>)
         ensures says { at self.new ≡ lay mode (g.array s.now (g.level s.now left) sized (follows mode) binder) (at self.old) }
         ensures lent { self.new.out.ghost_name ≡ self.old.out.ghost_name }
@@ -410,6 +437,7 @@ impl Printer<'_> {
     // A tuple of types or of constants: one alone keeps its comma.
     #[tactic(auto, using(crate::proofs::CycleLaws::tup_rules), unfolding(crate::specs::Model::tuple))]
     #[cycle(syntax)]
+    #[inline(never)]
     fn tup(&mut self, s: &[u8], item: Item, left: usize, binder: u64, mode: Option<Mode>)
         ensures says { at self.new ≡ lay mode (g.tuple s.now (g.level s.now left) item (follows mode) binder) (at self.old) }
         ensures lent { self.new.out.ghost_name ≡ self.old.out.ghost_name }
@@ -423,6 +451,7 @@ impl Printer<'_> {
     // A function pointer: its binder counts for what follows.
     #[tactic(auto, using(crate::proofs::CycleLaws::fnp_rules))]
     #[cycle(syntax)]
+    #[inline(never)]
     fn fnp(&mut self, s: &[u8], left: usize, binder: u64, mode: Option<Mode>)
         requires { Going (state_of self.old.st) }
         ensures says { at self.new ≡ lay mode (g.function s.now (g.level s.now left) (follows mode) binder) (at self.old) }
@@ -475,6 +504,7 @@ impl Printer<'_> {
     // A trait object.
     #[tactic(auto, using(crate::proofs::CycleLaws::obj_rules), unfolding(crate::specs::Model::object))]
     #[cycle(syntax)]
+    #[inline(never)]
     fn obj(&mut self, s: &[u8], left: usize, binder: u64, mode: Option<Mode>)
         ensures says { at self.new ≡ lay mode (g.object s.now (g.level s.now left) (follows mode) binder) (at self.old) }
         ensures lent { self.new.out.ghost_name ≡ self.old.out.ghost_name }
@@ -507,6 +537,7 @@ impl Printer<'_> {
     // `type is pattern`
     #[tactic(auto, using(crate::proofs::CycleLaws::sub_rules), unfolding(crate::specs::Model::patterned))]
     #[cycle(syntax)]
+    #[inline(never)]
     fn sub(&mut self, s: &[u8], left: usize, binder: u64, mode: Option<Mode>)
         ensures says { at self.new ≡ lay mode (g.patterned s.now (g.level s.now left) (follows mode) binder) (at self.old) }
         ensures lent { self.new.out.ghost_name ≡ self.old.out.ghost_name }
@@ -596,6 +627,7 @@ impl Printer<'_> {
     // A trait of a trait object, with what is bound to its associated types.
     #[tactic(auto, using(crate::proofs::CycleLaws::dt_rules), unfolding(crate::specs::Model::dyn_trait))]
     #[cycle(syntax)]
+    #[inline(never)]
     fn dt(&mut self, s: &[u8], left: usize, binder: u64, mode: Option<Mode>)
         ensures says { at self.new ≡ lay mode (g.dyn_trait s.now (g.level s.now left) (follows mode) binder) (at self.old) }
         ensures lent { self.new.out.ghost_name ≡ self.old.out.ghost_name }

@@ -4,6 +4,7 @@
 pub mod cycle;
 pub mod kinds;
 pub mod leaf;
+pub mod numbers;
 pub mod read;
 pub mod state;
 pub mod text;

@@ -10,13 +10,15 @@ ghost use Rattle.printer.specs.Lay.{state_of, full_state, moved_to, failed_at, c
 
 use pieces::put::{NoRoom, Put};
 
-// Whether the printer goes on; or the error that it has met; or that the buffer is full: such a state says nothing else.
+// Whether the printer goes on; or the error that it has met; or that the buffer is full: such a state says nothing else. An error of
+// another number, 4 at least, is set by nothing here, but a state that is given by number (numbers.rt) may have it.
 #[derive(Clone, Copy, Debug, PartialEq, Eq)]
 pub enum Status {
     Going,
     Invalid,
     RecursedTooDeep,
     Full,
+    Other(usize),
 }
 
 // The place in the symbol; the status; whether a target was damaged; how many bytes are written.

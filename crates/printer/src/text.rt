@@ -29,7 +29,7 @@ impl Text for Word {
     ghost piece = { λ w. word w };
 
     fn put(self, out: &mut [u8]) -> Put {
-        pieces::words::put_word(out, self)
+        self.lay(out)
     }
 }
 

@@ -10,7 +10,7 @@ use borrow.Author.Tests.{lt-ltb, le-ltb}
 use mir.Val.{Fits}
 use mir.Syntax.{w64}
 use Rattle.punycode.specs.Decode.{bias_of, lowered, adapted}
-use Rattle.punycode.specs.Steps.{limit}
+use Rattle.punycode.specs.Steps.{limit, bias-limit}
 
 lowered-more : (n d k : ℕ) → 455 < d → lowered (suc n) d k ≡ lowered n (d / 35) (k + 36)
 unfolding lowered
@@ -32,6 +32,14 @@ lowered-enough (suc n) (suc m) d k h e = elim (dec_lt 455 d) [
 
 bias-small : (d k : ℕ) → bias_of d k ≤ k + 36
 bias-small d k = omega (arith, div-le_of_le-mul (d + 38) {m = 36 * d} {n = 36} (omega arith))
+
+lowered-small : (n d k : ℕ) → lowered n d k ≤ k + d + 36
+unfolding lowered
+lowered-small zero d k = omega (arith, bias-small d k)
+lowered-small (suc n) d k = elim (dec_lt 455 d) [
+  | yes l ↦ omega (arith, lowered-more n d k l, lowered-small n (d / 35) (k + 36))
+  | no l ↦ omega (arith, lowered-done (suc n) d k (omega arith), bias-small d k)
+]
 
 -- ---- the loop: it has come to d and k
 pub record Lowering (delta d k : ℕ) : Type 0 where
@@ -62,6 +70,14 @@ module _ (v m points : ℕ) (h : v < limit) where
 
   pub spread-fits : Fits w64 (v / m + v / m / points)
   spread-fits = omega (arith, spread-small)
+
+  damped-small : lowered (v / m + v / m / points) (v / m + v / m / points) 0 < bias-limit
+  damped-small = omega (arith, lowered-small (v / m + v / m / points) (v / m + v / m / points) 0, spread-small)
+
+pub adapted-small : (v points : ℕ) (first : Bool) → v < limit → adapted v points first < bias-limit
+unfolding adapted
+adapted-small v points true h = damped-small v 700 points h
+adapted-small v points false h = damped-small v 2 points h
 
 module _ (v points : ℕ) {first : Bool} {r : ℕ} where
   pub adapt-first : first ≡ true → r ≡ lowered (v / 700 + v / 700 / points) (v / 700 + v / 700 / points) 0 → r ≡ adapted v points first

@@ -1,13 +1,12 @@
 -- The places: a text copied to their front, and a character inserted. Assumes nothing.
 use mathlib.Core.Path.{◌≡◌, refl, sym, ap, ◌∙◌}
 use mathlib.Core.List.{List, [], ◌∷◌, ◌++◌, append_assoc}
-use Prim.Native.Nat.{ℕ, ◌+◌, ◌-◌, ◌≤◌, ◌<◌}
+use Prim.Native.Nat.{ℕ, suc, ◌+◌, ◌-◌, ◌≤◌, ◌<◌}
 use native.Mathlib.Numerals.{add-one}
 use native.Mathlib.Omega.{arith}
 use borrow.Author.Rules.{rules}
-use lib.ListN.{length, get_or, take, drop, set, length-set, length-append, length-drop}
-use borrow.Rule.Slice.PartMut.{mid_of, post_of, put_mid}
-use lib.Seq.{take_all, take-suc, take-suc-set, length-take-le, set_at, take_at, drop_at, take-add, take-append_seam, drop-append_seam}
+use lib.ListN.{length, get_or, take, drop, set, length-set, get_or-append}
+use lib.Seq.{take_all, take-suc, take-suc-set, take-set-lt, take-length, drop-length, length-take-le, set_at, get_or-set_other, get_or-take, drop-cons}
 use Rattle.punycode.specs.Answer.{most}
 use Rattle.punycode.specs.Decode.{insert_at}
 
@@ -32,31 +31,72 @@ module _ {s places : List ℕ} {i : ℕ} (r : Copying s places i) where
 
 pub ruleset copy_laws = (copy-start, copy-next, copy-end, rules)
 
--- ---- a character inserted: the places from its own on, up to the first len, are turned right by one, which leaves it free
--- front, the place that came round, what moved up, and what is behind
-stored : (front turned moved behind : List ℕ) (c place n : ℕ) → length turned ≡ 1 → length front ≡ place → n ≡ length (front ++ (c ∷ moved))
-    → take n (set (front ++ ((turned ++ moved) ++ behind)) place c) ≡ front ++ (c ∷ moved)
-stored front [] moved behind c place n h k e = absurd (omega arith)
-stored front (x ∷ []) moved behind c place n h k e =
-    rw (set_at front x (moved ++ behind) c place k, ← append_assoc front (c ∷ moved) behind, e) (take-append_seam (front ++ (c ∷ moved)) behind)
-stored front (x ∷ y ∷ turned) moved behind c place n h k e = absurd (omega arith)
+-- ---- a character inserted: the places from j on have moved up by one, up to the first len, and j is free
+pub record Opened (before places : List ℕ) (len place j : ℕ) : Type 0 where
+  pub least : place ≤ j
+  pub within : j ≤ len
+  pub moved : take (len + 1) places ≡ insert_at j (get_or places j 0) (take len before)
+  pub all : length places ≡ most
+  pub whole : length (take len before) ≡ len
 
-pub inserted : (places turned : List ℕ) (len place c : ℕ) → length places ≡ most → place ≤ len → len < most
-    → turned ≡ drop (length (mid_of place (len + 1 - place) places) - 1) (mid_of place (len + 1 - place) places) ++ take (length (mid_of place (len + 1 - place) places) - 1) (mid_of place (len + 1 - place) places)
-    → take (len + 1) (set (put_mid place (len + 1 - place) places turned) place c) ≡ insert_at place c (take len places)
+set-insert : (j x y : ℕ) (s : List ℕ) → j ≤ length s → set (insert_at j x s) j y ≡ insert_at j y s
 unfolding insert_at
-inserted places turned len place c all within room e =
-    let front : List ℕ = take place places in
-    let moved : List ℕ = take (len - place) (drop place places) in
-    let last : List ℕ = take 1 (drop (len - place) (drop place places)) in
-    let front-long : length front ≡ place = length-take-le place places (omega arith) in
-    let moved-long : length moved ≡ len - place = length-take-le (len - place) (drop place places) (omega (arith, length-drop place places)) in
-    let last-long : length last ≡ 1 = length-take-le 1 (drop (len - place) (drop place places)) (omega (arith, length-drop place places, length-drop (len - place) (drop place places))) in
-    let count : len + 1 - place ≡ len - place + 1 = omega arith in
-    let part : mid_of place (len + 1 - place) places ≡ moved ++ last = rw count (take-add (len - place) 1 (drop place places)) in
-    let one_less : length (moved ++ last) - 1 ≡ length moved = omega (arith, length-append moved last) in
-    let round : turned ≡ last ++ moved = rw (part, one_less, drop-append_seam moved last, take-append_seam moved last) at e in
-    let sum : place + (len - place) ≡ len = omega arith in
-    let first : take len places ≡ front ++ moved = rw sum at (take-add place (len - place) places) in
-    rw (round, first, take_at front moved place front-long, drop_at front moved place front-long)
-    (stored front last moved (post_of place (len + 1 - place) places) c place (len + 1) last-long front-long (omega (arith, length-append front (c ∷ moved))))
+set-insert j x y s h = set_at (take j s) x (drop j s) y j (length-take-le j s h)
+
+insert-last : (x : ℕ) (s : List ℕ) → insert_at (length s) x s ≡ s ++ (x ∷ [])
+unfolding insert_at
+insert-last x s = rw (take-length s, drop-length s)
+
+-- where the character is that before the place, it may as well stand a place earlier
+insert-same : (j x : ℕ) (s : List ℕ) → j < length s → get_or s j 0 ≡ x → insert_at (j + 1) x s ≡ insert_at j x s
+unfolding insert_at
+insert-same j x s h e = rw (add-one, take-suc s j 0 h, drop-cons s j 0 h, e) (append_assoc (take j s) (x ∷ []) (x ∷ drop (suc j) s))
+
+get_or-insert : (i j x : ℕ) (s : List ℕ) → i < j → j ≤ length s → get_or (insert_at j x s) i 0 ≡ get_or s i 0
+unfolding insert_at
+get_or-insert i j x s h k = get_or-append (take j s) (x ∷ drop j s) 0 i (omega (arith, length-take-le j s k)) ∙ get_or-take j s i 0 h
+
+pub open-start : (before : List ℕ) (len place : ℕ) → length before ≡ most → place ≤ len → len < most → Opened before before len place len
+open-start before len place h l k =
+    let all : length (take len before) ≡ len = length-take-le len before (omega arith) in
+    record {
+      least = l;
+      within = omega arith;
+      moved = rw (add-one, take-suc before len 0 (omega arith)) (sym (insert-last (get_or before len 0) (take len before)) ∙ ap (λ (n : ℕ). insert_at n (get_or before len 0) (take len before)) all);
+      all = h;
+      whole = all;
+    }
+
+module _ {before places : List ℕ} {len place j : ℕ} (r : Opened before places len place j) where
+  stored : (x : ℕ) → take (len + 1) (set places j x) ≡ insert_at j x (take len before)
+  stored x =
+      take-set-lt (len + 1) places j x (omega (arith, r.within))
+      ∙ ap (λ (l : List ℕ). set l j x) r.moved
+      ∙ set-insert j (get_or places j 0) x (take len before) (omega (arith, r.whole, r.within))
+
+  pub open_next : place < j → Opened before (set places (j - 1 + 1) (get_or places (j - 1) 0)) len place (j - 1)
+  open_next h =
+      let x : ℕ = get_or places (j - 1) 0 in
+      let s : List ℕ = take len before in
+      let e : j - 1 + 1 ≡ j = omega arith in
+      let old : get_or s (j - 1) 0 ≡ x =
+      sym (get_or-insert (j - 1) j (get_or places j 0) s (omega arith) (omega (arith, r.whole, r.within)))
+      ∙ sym (ap (λ (l : List ℕ). get_or l (j - 1) 0) r.moved)
+      ∙ get_or-take (len + 1) places (j - 1) 0 (omega (arith, r.within)) in
+      let here : get_or (set places j x) (j - 1) 0 ≡ x = get_or-set_other places j (j - 1) x 0 (λ q. omega arith) in
+      rw e
+      (record {
+        least = omega arith;
+        within = omega (arith, r.within);
+        moved = stored x ∙ ap (λ (n : ℕ). insert_at n x s) (sym e) ∙ insert-same (j - 1) x s (omega (arith, r.whole, r.within)) old ∙ ap (λ (y : ℕ). insert_at (j - 1) y s) (sym here);
+        all = length-set places j x ∙ r.all;
+        whole = r.whole;
+      })
+
+  pub open-end : (c : ℕ) → j ≤ place → take (len + 1) (set places place c) ≡ insert_at place c (take len before)
+  open-end c h = let e : j ≡ place = omega (arith, r.least) in rw e at (stored c)
+
+  pub open-size : (k c : ℕ) → length (set places k c) ≡ most
+  open-size k c = length-set places k c ∙ r.all
+
+pub ruleset insert_laws = (open-start, open_next, open-end, open-size, rules)

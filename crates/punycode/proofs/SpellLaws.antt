@@ -14,7 +14,7 @@ use lib.ListN.{length, take, drop, drop_of_length-le}
 use lib.Seq.{drop-cons, length-take-le}
 use Rattle.punycode.specs.Answer.{most, decoded, shown}
 use Rattle.punycode.specs.Decode.{initial-n, initial-bias, Turn, turn, turn_of, insert_at, Spelt, spelt, long, More, go_on, round_of, rounds}
-use Rattle.punycode.specs.Steps.{delta_at, as_turn}
+use Rattle.punycode.specs.Steps.{bias-limit, delta_at, as_turn}
 use Rattle.punycode.specs.declared.DecodeError.{DecodeError}
 use Rattle.punycode.specs.declared.DecodeError.TheVariants.{Long, Broken}
 use Rattle.punycode.specs.declared.spell.Step.{Step}
@@ -47,6 +47,7 @@ pub record Spelling (s places : List ℕ) (whole : Spelt) (n i bias at len : ℕ
   pub few : len ≤ most
   pub n-small : n < 2 ^ 32
   pub i-small : i < 2 ^ 32
+  pub bias-small : bias < bias-limit
 
 module _ {s places : List ℕ} {whole : Spelt} {n i bias at len : ℕ} (r : Spelling s places whole n i bias at len) where
   count : length (take len places) ≡ len
@@ -76,7 +77,7 @@ module _ {s places : List ℕ} {whole : Spelt} {n i bias at len : ℕ} (r : Spel
           let full : most - len ≡ 0 = omega arith in
           sym (rounds-turn n i bias (take len places) s at h 0 (rw e at found)) ∙ rw full at r.left
 
-      small : (t.value < 0x110000) × (t.place < len + 1)
+      small : (t.value < 0x110000) × (t.place < len + 1) × (t.bias < bias-limit)
       small = turn_small n i (len + 1) (omega arith) (omega (arith, r.few)) (delta_at bias s at) known
 
       pub place-within : t.place ≤ len
@@ -100,6 +101,7 @@ module _ {s places : List ℕ} {whole : Spelt} {n i bias at len : ℕ} (r : Spel
             few = omega arith;
             n-small = omega arith;
             i-small = omega (arith, place-within);
+            bias-small = omega arith;
           }
 
 pub ruleset spell_laws = (spell-end, spell-broken, spell-long, place-fits, place-within, value-fits, spell_next, rules)

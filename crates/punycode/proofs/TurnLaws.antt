@@ -16,7 +16,8 @@ use Rattle.parser.specs.Digits.{if-then}
 use Rattle.parser.specs.Scalar.{is_scalar}
 use Rattle.punycode.specs.Answer.{most}
 use Rattle.punycode.specs.Decode.{Delta, read, unread, adapted, turn, no_turn, turn_of}
-use Rattle.punycode.specs.Steps.{delta_at, limit, limited, as_delta, as_turn}
+use Rattle.punycode.specs.Steps.{delta_at, limit, bias-limit, limited, as_delta, as_turn}
+use Rattle.punycode.proofs.AdaptLaws.{adapted-small}
 
 -- ---- the limit
 scalar-over : (v : ℕ) → 0x110000 ≤ v → is_scalar v ≡ false
@@ -48,6 +49,9 @@ module _ (n i len : ℕ) (some : 1 ≤ len) (few : len ≤ most + 1) where
       let q : 0x110000 ≤ (i + v) / len = (le-div_iff_mul-le some).1 (omega arith) in
       scalar-over (n + (i + v) / len) (omega arith)
 
+  below-limit : (v : ℕ) → is_scalar (n + (i + v) / len) ≡ true → v < limit
+  below-limit v h = elim (dec_lt v limit) [ yes l ↦ l | no l ↦ absurd (clash h (past-scalars v (omega arith))) ]
+
   -- The 64-bit law: the code stops reading a delta at the limit, well before anything wraps, and a turn over whole numbers with a
   -- delta that large has no character. So no delta that whole numbers accept is refused because it is too large.
   pub limit-refuses-nothing : (v : Delta) → turn_of n i len (limited v) ≡ turn_of n i len v
@@ -59,18 +63,19 @@ module _ (n i len : ℕ) (some : 1 ≤ len) (few : len ≤ most + 1) where
   ]
 
   -- ---- how large a turn's numbers are
-  pub turn_small : (v : Delta) {m j b : ℕ} {rest : List ℕ} → turn m j b rest ≡ turn_of n i len v → (m < 0x110000) × (j < len)
+  pub turn_small : (v : Delta) {m j b : ℕ} {rest : List ℕ} → turn m j b rest ≡ turn_of n i len v → (m < 0x110000) × (j < len) × (b < bias-limit)
   unfolding turn_of
   turn_small unread e = absurd (let z : ◌≡◌ {A = ℕ} 0 1 = cc in omega arith)
   turn_small (read v more) {m} {j} {b} {rest} e = go (is_scalar (n + (i + v) / len)) refl e
     where
       go : (t : Bool) → is_scalar (n + (i + v) / len) ≡ t
           → turn m j b rest ≡ if-then t (turn (n + (i + v) / len) ((i + v) % len) (adapted v len (eqb i 0)) more) no_turn
-          → (m < 0x110000) × (j < len)
+          → (m < 0x110000) × (j < len) × (b < bias-limit)
       go true h q =
           let p0 : m ≡ n + (i + v) / len = cc in
           let p1 : j ≡ (i + v) % len = cc in
-          (omega (arith, scalar-small (n + (i + v) / len) h), omega (arith, mod-lt (i + v) some))
+          let p2 : b ≡ adapted v len (eqb i 0) = cc in
+          (omega (arith, scalar-small (n + (i + v) / len) h), omega (arith, mod-lt (i + v) some), omega (arith, adapted-small v len (eqb i 0) (below-limit v h)))
       go false h q = absurd (let z : ◌≡◌ {A = ℕ} 0 1 = cc in omega arith)
 
 -- ---- what `next_char` is left to show; r is what `read_delta` answered

@@ -20,6 +20,10 @@ unfoldable pub limited : Delta → Delta
 limited (read v rest) = if-then (ltb v limit) (read v rest) unread
 limited unread = unread
 
+-- every bias stays below this (`adapted-small`)
+abbrev pub bias-limit : ℕ
+bias-limit = 2 ^ 34
+
 -- an answer's next place stands for the text from there on
 unfoldable pub as_delta : List ℕ → Option (ℕ × ℕ) → Delta
 as_delta name (Some (v, next)) = read v (drop next name)

@@ -15,13 +15,16 @@ pub fn copy(text: &[u8], chars: &mut [u32; 128])
     }
 }
 
-// A character between the first `len`: those from its place on move up by one.
+// A character between the first `len`: those from its place on move up by one, one by one, since the library's rotation needs memmove,
+// which the archive for C is to do without.
 pub fn insert(chars: &mut [u32; 128], len: usize, place: usize, c: u32)
     requires place_le_len { place ≤ len }
     requires len_lt_most { len < most }
     ensures inserted { take (len + 1) chars.new ≡ insert_at place c (take len chars.old) }
     ensures all { length chars.new ≡ most }
 {
-    chars[place..=len].rotate_right(1);
+    for j in (place..len).rev() {
+        chars[j + 1] = chars[j];
+    }
     chars[place] = c;
 }

@@ -3,6 +3,7 @@ use nibbles::text::{char_at, is_text};
 use nibbles::uint::Hex;
 use parser::names::Name;
 use parser::number::hex_nibbles;
+use pieces::numbers::put_hex;
 use punycode::{DecodeError, decode};
 use std::fmt::Display;
 use std::io;
@@ -51,10 +52,13 @@ fn spelt(s: &[u8], name: Name, out: &mut impl Write) -> io::Result<()> {
     }
 }
 
-// A character in hex, with a `.` before it unless it is the first.
+// A character in hex, with a `.` before it unless it is the first: by the writer of `pieces`, since by `write!` a line of many takes a third
+// longer.
 fn character(out: &mut impl Write, first: bool, c: u32) -> io::Result<()> {
-    let dot = if first { "" } else { "." };
-    write!(out, "{dot}{c:x}")
+    let mut room = [b'.'; 9];
+    let n = put_hex(&mut room[1..], u64::from(c)).unwrap_or(8);
+    let from = usize::from(first);
+    out.write_all(room.get(from..n.saturating_add(1)).unwrap_or(&room))
 }
 
 pub fn hex_value(s: &[u8], at: usize, out: &mut impl Write) -> io::Result<()> {

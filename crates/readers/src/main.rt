@@ -5,7 +5,7 @@
 mod answer;
 mod field;
 
-use lines::answers::answer_lines;
+use lines::answers::{Sends, answer_lines};
 use lines::input::{Line, Readable};
 use lines::output::Output;
 
@@ -18,6 +18,7 @@ fn main(rt: HostRuntime) {
         &mut Readable(rt.stdin()),
         &mut line,
         &mut out,
+        Sends::WhenFull,
         |line, out| answer::line(line, &mut room, out),
     );
 }

@@ -2,6 +2,7 @@
 use demangle::check::{check, suffix};
 use demangle::print::Printed;
 use demangle::refusal::Refusal;
+use lines::output::hex_digits;
 use std::io;
 use std::io::Write;
 
@@ -32,11 +33,7 @@ pub fn printed(
         Err(refusal) => (refusal.number(), 0, '-'),
     };
     let (text, behind) = room.split_at_checked(n).unwrap_or((room, &[]));
-    let kept = if behind.iter().all(|b| *b == BEFORE) {
-        'k'
-    } else {
-        'x'
-    };
+    let kept = if is_kept(behind) { 'k' } else { 'x' };
     write!(out, "{code} {n} {state} {kept} ")?;
     if text.is_empty() {
         return out.write_all(b"-");
@@ -44,10 +41,23 @@ pub fn printed(
     hex(text, out)
 }
 
-// Two hex digits for each byte.
+// Whether each byte is as it was before the call. No early way out: so the compiler takes many bytes at a time.
+fn is_kept(behind: &[u8]) -> bool {
+    let mut changed = 0;
+    for b in behind {
+        changed |= *b ^ BEFORE;
+    }
+    changed == 0
+}
+
+// Two hex digits for each byte, those of some bytes at a time.
 fn hex(bytes: &[u8], out: &mut impl Write) -> io::Result<()> {
-    for b in bytes {
-        write!(out, "{b:02x}")?;
+    for part in bytes.chunks(64) {
+        let mut text = [0u8; 128];
+        for (pair, b) in text.chunks_exact_mut(2).zip(part) {
+            pair.copy_from_slice(&hex_digits(*b));
+        }
+        out.write_all(text.get(..2 * part.len()).unwrap_or(&text))?;
     }
     Ok(())
 }

@@ -1,19 +1,11 @@
 -- `pieces::words::put_word` meets its contract.
-use Rattle.pieces.specs.Words.{ascii, word_at}
-use Rattle.pieces.proofs.WordLaws.{word_laws}
+use Rattle.pieces.specs.Words.{words}
+use Rattle.pieces.proofs.WordLaws.{word_numbered, word_beyond}
 use Rattle.pieces.proofs.words.put_word.Goals as goal
 
-pub returns-in-Some : goal.returns-in-Some
-returns-in-Some c = search word_laws
+pub returns-then-k-lt52 : goal.returns-then-k-lt52
+unfolding words
+returns-then-k-lt52 c = word_numbered c.args.k _ c.if-k-lt52.true c.lay.ensures
 
-pub returns-in-Invalid : goal.returns-in-Invalid
-unfolding word_at ascii
-returns-in-Invalid c = search word_laws
-
-pub returns-in-Deep : goal.returns-in-Deep
-unfolding word_at ascii
-returns-in-Deep c = search word_laws
-
-pub returns-in_default-w : goal.returns-in_default-w
-unfolding word_at ascii
-returns-in_default-w c = search word_laws
+pub returns-else-k-lt52 : goal.returns-else-k-lt52
+returns-else-k-lt52 c = word_beyond c.args.k c.args.out.now c.if-k-lt52.false

@@ -1,6 +1,12 @@
 -- `punycode::places::insert` meets its contract.
-use Rattle.punycode.proofs.PlaceLaws.{inserted}
+use Rattle.punycode.proofs.PlaceLaws.{insert_laws}
 use Rattle.punycode.proofs.places.insert.Goals as goal
 
+pub loop-j-init : goal.loop-j-init
+loop-j-init c = search insert_laws
+
+pub loop-j-preserved : goal.loop-j-preserved
+loop-j-preserved c = search insert_laws
+
 pub returns-clause-inserted : goal.returns-clause-inserted
-returns-clause-inserted c = inserted c.args.chars.now c.rotate_right.new.self c.args.len c.args.place c.args.c c.told-chars c.requires.place_le_len c.requires.len_lt_most c.rotate_right.ensures.after
+returns-clause-inserted c = search insert_laws
