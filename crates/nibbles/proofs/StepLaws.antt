@@ -2,10 +2,8 @@
 use Rattle.std.specs.Prelude.{Option, Some, None, Ok}
 use mathlib.Core.Path.{◌≡◌, refl, sym, ap, subst, ◌∙◌}
 use mathlib.Core.Bool.{Bool, true, false}
-use mathlib.Core.Logic.{◌⊎◌, inl, inr}
 use mathlib.Core.List.{List, [], ◌∷◌}
 use Prim.Native.Nat.{ℕ, suc, ◌+◌, ◌-◌, ◌*◌, ◌^◌, ◌≤◌, ◌<◌}
-use native.Mathlib.Decide.{dec_lt}
 use native.Mathlib.Omega.{arith}
 use native.Mathlib.Nat.{pow-le-pow_right, pow-succ', sub-zero}
 use native.Mathlib.Numerals.{add-one}
@@ -34,15 +32,17 @@ octets-half [] h = refl
 octets-half (x ∷ []) h = refl
 octets-half (x ∷ y ∷ r) h = absurd (omega arith)
 
-octets-no_pair : (t : List ℕ) → (16 ≤ digit_of (get_or t 0 0)) ⊎ (16 ≤ digit_of (get_or t 1 0)) → octets t ≡ []
+octets-high : (t : List ℕ) → 16 ≤ digit_of (get_or t 0 0) → octets t ≡ []
 unfolding octets
-octets-no_pair [] h = refl
-octets-no_pair (x ∷ []) h = refl
-octets-no_pair (x ∷ y ∷ r) (inl h) = rw (le-ltb (digit_of x) 16 h)
-octets-no_pair (x ∷ y ∷ r) (inr h) = elim (dec_lt (digit_of x) 16) [
-  | yes k ↦ rw (lt-ltb (digit_of x) 16 k, le-ltb (digit_of y) 16 h)
-  | no k ↦ rw (le-ltb (digit_of x) 16 (omega arith))
-]
+octets-high [] h = refl
+octets-high (x ∷ []) h = refl
+octets-high (x ∷ y ∷ r) h = rw (le-ltb (digit_of x) 16 h)
+
+octets-low : (t : List ℕ) → digit_of (get_or t 0 0) < 16 → 16 ≤ digit_of (get_or t 1 0) → octets t ≡ []
+unfolding octets
+octets-low [] h k = refl
+octets-low (x ∷ []) h k = refl
+octets-low (x ∷ y ∷ r) h k = rw (lt-ltb (digit_of x) 16 h, le-ltb (digit_of y) 16 k)
 
 octets-some : (t : List ℕ) → 2 ≤ length t → digit_of (get_or t 0 0) < 16 → digit_of (get_or t 1 0) < 16 → octet_in (octets t) ≡ Some (digit_of (get_or t 0 0) * 16 + digit_of (get_or t 1 0))
 octets-some [] h k l = absurd (omega arith)
@@ -62,15 +62,18 @@ module _ (s : List ℕ) (at : ℕ) where
     pub octet-half : length t < 2 → None ≡ octet_at s at
     octet-half h = rw (octets-half t h) at at-front
 
-    module _ (h l : ℕ) (high : h ≡ digit_of (get_or t 0 0)) (low : l ≡ digit_of (get_or t 1 0)) where
-      pub octet-none : ((h < 16) × (16 ≤ l)) ⊎ (16 ≤ h) → None ≡ octet_at s at
-      octet-none (inl k) = rw (octets-no_pair t (inr (rw low at k.1))) at at-front
-      octet-none (inr k) = rw (octets-no_pair t (inl (rw high at k))) at at-front
+    module _ (h : ℕ) (high : h ≡ digit_of (get_or t 0 0)) where
+      pub octet-high : 16 ≤ h → None ≡ octet_at s at
+      octet-high k = rw (octets-high t (rw high at k)) at at-front
 
-      pub octet-of : 2 ≤ length t → h < 16 → l < 16 → Some (h * 16 + l) ≡ octet_at s at
-      octet-of n k q = rw (octets-some t n (rw high at k) (rw low at q), ← high, ← low) at at-front
+      module _ (l : ℕ) (low : l ≡ digit_of (get_or t 1 0)) (k : h < 16) where
+        pub octet-low : 16 ≤ l → None ≡ octet_at s at
+        octet-low q = rw (octets-low t (rw high at k) (rw low at q)) at at-front
 
-pub ruleset octet_laws = (octet-past, octet-half, octet-none, octet-of, rules)
+        pub octet-of : 2 ≤ length t → l < 16 → Some (h * 16 + l) ≡ octet_at s at
+        octet-of n q = rw (octets-some t n (rw high at k) (rw low at q), ← high, ← low) at at-front
+
+pub ruleset octet_laws = (octet-past, octet-half, octet-high, octet-low, octet-of, rules)
 
 -- ---- what an answer of `octet` says
 record Byte (s : List ℕ) (at b : ℕ) : Type 0 where
@@ -296,11 +299,14 @@ module _ {s : List ℕ} {at : ℕ} (a : Along s at) where
           omega (arith, w.on, w.there)
 
 -- g is what `octet` answered: a byte, which is a character by itself if it is small
-module _ {s : List ℕ} {at : ℕ} (a : Along s at) (h : at < length s) {g : Option ℕ} (read : g ≡ octet_at s at) {b : ℕ} (known : g ≡ Some b) (small : b < 0x80) where
+module _ {s : List ℕ} {at : ℕ} (a : Along s at) {g : Option ℕ} (read : g ≡ octet_at s at) {b : ℕ} (known : g ≡ Some b) (small : b < 0x80) where
+  there : at < length s
+  there = omega (arith, (holds s at read known).fit)
+
   pub quick-on : Along s (at + 2)
-  quick-on = along-on a h {r = Some (b, at + 2)} (first-ascii s at g read b known small) {c = b} {next = at + 2} refl
+  quick-on = along-on a there {r = Some (b, at + 2)} (first-ascii s at g read b known small) {c = b} {next = at + 2} refl
 
   pub quick-less : length s - (at + 2) < length s - at
-  quick-less = along-less a h {r = Some (b, at + 2)} (first-ascii s at g read b known small) {c = b} {next = at + 2} refl
+  quick-less = along-less a there {r = Some (b, at + 2)} (first-ascii s at g read b known small) {c = b} {next = at + 2} refl
 
 pub ruleset text_laws = (along-start, along-end, along-bad, along-on, along-less, octet-fits, quick-on, quick-less, rules)

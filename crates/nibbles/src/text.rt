@@ -19,12 +19,14 @@ fn octet(s: &[u8], at: usize) -> Option<u64>
         return None;
     };
     let high = number::digit(*high);
-    let low = number::digit(*low);
-    if high < 16 && low < 16 {
-        Some(high * 16 + low)
-    } else {
-        None
+    if high >= 16 {
+        return None;
     }
+    let low = number::digit(*low);
+    if low >= 16 {
+        return None;
+    }
+    Some(high * 16 + low)
 }
 
 // The value so far, with the six bits of the continuation byte at a place.

@@ -169,7 +169,7 @@ module _ (s : List ℕ) (at tag m : ℕ) (eaten : m ≡ past tag s at) where
 
 pub ruleset optional_laws = (optional-absent, optional-invalid, optional-max, optional-value, rules)
 
--- ---- an identifier's length: m is what `digit_10` answered, n what `number` answered
+-- ---- an identifier's length: m is what `digit_at` answered, n what `number` answered
 decimal-zero : (d e at : ℕ) (ds others : List ℕ) → ds ≡ d ∷ others → e ≡ at + 1 → d ≡ 0 → read 0 e ≡ decimal ds at
 unfolding decimal
 decimal-zero d e at ds others are next z = rw (are, z, next)

@@ -1,26 +1,25 @@
 -- A number that is being read, over any base: what a loop that takes a digit a turn keeps. Assumes nothing.
 use Rattle.parser.specs.Number.{fits, over}
+use Rattle.std.specs.Prelude.{Option, Some, None, SomeIff}
 use mathlib.Core.Path.{◌≡◌, refl, sym, ap, ◌∙◌}
 use mathlib.Core.List.{List, [], ◌∷◌}
-use Prim.Native.Nat.{ℕ, ◌+◌, ◌-◌, ◌*◌, ◌/◌, ◌^◌, ◌≤◌, ◌<◌}
-use native.Mathlib.Nat.{le-div_iff_mul-le, div-lt_iff_lt-mul}
+use Prim.Native.Nat.{ℕ, ◌+◌, ◌*◌, ◌^◌, ◌≤◌, ◌<◌}
 use native.Mathlib.Omega.{arith}
 use borrow.Author.Rules.{rules}
-use mir.Val.{Fits as Fits·}
-use mir.Syntax.{w64}
 use borrow.Author.Tests.{lt-ltb, le-ltb}
 use lib.ListN.{length, get_or, drop}
 use Rattle.parser.specs.Digits.{digit_of, digits, value}
 use Rattle.parser.specs.Number.{number_at}
-use Rattle.parser.proofs.DigitLaws.{Along, along-next, along-none, along-past, digit-62, digits_more, digits-none, digits-past, onto, onto-none, onto-nil, onto-more, onto-le}
+use Rattle.parser.proofs.DigitLaws.{Along, along-next, along-none, along-past, digits_more, digits-none, digits-past, onto, onto-none, onto-nil, onto-more, onto-le}
 
--- the accumulating step stays below 2 ^ 64 just where this test says so
-module _ {b x d m : ℕ} (pos : 1 ≤ b) (dm : d ≤ m) where
-  step_fits : x ≤ (m - d) / b → x * b + d ≤ m
-  step_fits h = let k = (le-div_iff_mul-le pos).0 h in omega arith
+-- ---- one digit more: p is the product, q what adding the digit to it answered
+pub product-over : (b x d : ℕ) → 2 ^ 64 ≤ x * b → SomeIff None (x * b + d < 2 ^ 64) (x * b + d)
+product-over b x d h = λ k. omega (arith, h, k)
 
-  step-over : (m - d) / b < x → m < x * b + d
-  step-over h = let k = (div-lt_iff_lt-mul pos).0 h in omega arith
+pub sum-of : (b x d p : ℕ) (q : Option ℕ) → p ≡ x * b → SomeIff q (p + d < 2 ^ 64) (p + d) → SomeIff q (x * b + d < 2 ^ 64) (x * b + d)
+sum-of b x d p q e h = rw (← e) h
+
+pub ruleset onward_laws = (product-over, sum-of, rules)
 
 -- x is the number of the digits from at to i
 pub record Reading (b : ℕ) (s : List ℕ) (at x i : ℕ) : Type 0 where
@@ -56,31 +55,15 @@ module _ {b : ℕ} {s : List ℕ} {at x i : ℕ} (r : Reading b s at x i) where
       let v : 2 ^ 64 ≤ value b (digits b (drop at s)) = omega (arith, turn h q k, onto-le b (x * b + d) (digits b (drop (i + 1) s)) (omega arith)) in
       rw (le-ltb _ _ v, p, r.along.ends)
 
--- ---- what `number` is left to show, from the facts as its places have them: d is what `digit` answered of the byte at i
-pub base-positive : (b d : ℕ) → d < b → b ≡ 0 → ⊥
-base-positive b d h e = omega arith
+-- ---- what `number` is left to show, from the facts as its places have them: d is what `digit` answered of the byte at i, m what `onward` did
+module _ {b : ℕ} {s : List ℕ} {at x i : ℕ} (r : Reading b s at x i) {d : ℕ} (counts : d ≡ digit_of (get_or s i 0)) (digit : d < b) (inside : i < length s)
+    {m : Option ℕ} (more : SomeIff m (x * b + d < 2 ^ 64) (x * b + d)) where
+  pub at-over : {e : ℕ} → m ≡ None → e ≡ i + length (digits b (drop i s)) → over e ≡ number_at b s at
+  at-over h p = let no : SomeIff None (x * b + d < 2 ^ 64) (x * b + d) = rw h at more in passes r inside counts digit (omega (arith, no)) p
 
-module _ {b : ℕ} {s : List ℕ} {at x i : ℕ} (r : Reading b s at x i) {d : ℕ} (counts : d ≡ digit_of (get_or s i 0)) (small : d < b) where
-  few : d ≤ 0xffff_ffff_ffff_ffff
-  few = omega (arith, digit-62 (get_or s i 0))
+  pub at_next : {y : ℕ} → m ≡ Some y → Reading b s at y (i + 1)
+  at_next {y} h =
+      let yes : SomeIff (Some y) (x * b + d < 2 ^ 64) (x * b + d) = rw h at more in
+      record { along = along-next r.along inside counts digit; number = rw yes.1 (turn r inside counts digit); small = rw yes.1 yes.0 }
 
-  pub room_fits : d ≤ 0xffff_ffff_ffff_ffff
-  room_fits = few
-
-  pub at-over : {e : ℕ} → (0xffff_ffff_ffff_ffff - d) / b < x → i < length s → e ≡ i + length (digits b (drop i s)) → over e ≡ number_at b s at
-  at-over h k p = passes r k counts small (step-over {b = b} {x = x} {d = d} (omega arith) few h) p
-
-  module _ (room : x ≤ (0xffff_ffff_ffff_ffff - d) / b) where
-    stays : x * b + d ≤ 0xffff_ffff_ffff_ffff
-    stays = step_fits {b = b} {x = x} {d = d} (omega arith) few room
-
-    pub product-fits : Fits· w64 (x * b)
-    product-fits = omega (arith, stays)
-
-    pub sum_fits : Fits· w64 (x * b + d)
-    sum_fits = omega (arith, stays)
-
-    pub at_next : i < length s → Reading b s at (x * b + d) (i + 1)
-    at_next k = record { along = along-next r.along k counts small; number = turn r k counts small; small = omega (arith, stays) }
-
-pub ruleset number_laws = (start, none, past, room_fits, base-positive, at-over, product-fits, sum_fits, at_next, rules)
+pub ruleset number_laws = (start, none, past, at-over, at_next, rules)

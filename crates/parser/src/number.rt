@@ -1,5 +1,5 @@
 // Numbers: digits of any base and their value, read by one loop; base 62, base 10 and base 16 are its instances.
-ghost use Rattle.std.specs.Prelude.{◌≡◌, ◌+◌, length, drop};
+ghost use Rattle.std.specs.Prelude.{◌≡◌, ◌+◌, ◌*◌, ◌^◌, ◌<◌, SomeIff, length, drop};
 ghost use Rattle.parser.specs.Digits.{digit_of, digits};
 ghost use Rattle.parser.specs.Number.{digit_at, number_at, integer62, optional62, length10, hex_at, back_at};
 
@@ -44,6 +44,19 @@ pub fn run_end(s: &[u8], at: usize, base: u64) -> usize
     at.max(s.len())
 }
 
+// The number with one digit more, where it fits 64 bits. Below the greatest number that may be multiplied every digit fits: all but the last
+// turns of a loop take this one test, and no division, since the base is a constant where this is compiled in.
+#[tactic(auto, using(crate::proofs::ReadingLaws::onward_laws))]
+fn onward(x: u64, base: u64, d: u64) -> Option<u64>
+    requires { d < base }
+    ensures { SomeIff result (x * base + d < 2 ^ 64) (x * base + d) }
+{
+    if x < u64::MAX / base {
+        return Some(x * base + d);
+    }
+    x.checked_mul(base)?.checked_add(d)
+}
+
 // The number that stands at a place in a base, and the place after its digits: that alone where it does not fit 64 bits. What the loop keeps
 // is a record, which `using` does not close by (tried), so three goals have answers that search.
 #[tactic(auto, using(crate::proofs::ReadingLaws::number_laws))]
@@ -56,10 +69,10 @@ pub fn number(s: &[u8], at: usize, base: u64) -> Result<(u64, usize), usize>
         if d >= base {
             return Ok((x, i));
         }
-        if x > (u64::MAX - d) / base {
+        let Some(y) = onward(x, base, d) else {
             return Err(run_end(s, i, base));
-        }
-        x = x * base + d;
+        };
+        x = y;
     }
     Ok((x, at.max(s.len())))
 }

@@ -75,3 +75,5 @@ module _ (k : ℕ) where
   pub word_beyond : (d : List ℕ) → 52 ≤ k → Wrote (word_by k) d d (Ok 0)
   unfolding word_by words
   word_beyond d h = rw (past-all words k h) (wrote_none d)
+
+pub ruleset number_laws = (word_numbered, word_beyond, rules)

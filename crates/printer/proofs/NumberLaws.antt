@@ -1,23 +1,13 @@
 -- A state and a mode by number. Assumes nothing.
-use Rattle.std.specs.Prelude.{Option, Some, None, max}
-use Prim.Native.Nat.{ℕ, zero, suc, ◌+◌, ◌≤◌, ◌<◌}
-use mathlib.Core.Path.{◌≡◌, refl, sym, ap, ◌∙◌}
-use mathlib.Core.Bool.{Bool, true, false, not}
-use mathlib.Core.List.{List}
+use Rattle.std.specs.Prelude.{max}
+use Prim.Native.Nat.{ℕ, ◌≤◌}
+use mathlib.Core.Path.{◌≡◌}
+use mathlib.Core.Bool.{false}
 use native.Mathlib.Omega.{arith}
 use borrow.Author.Rules.{rules}
 use borrow.Author.Tests.{ne_eqb}
 use lib.Dec.{eqb}
-use lib.ListN.{get_or}
 use Rattle.parser.specs.Digits.{if-then}
-use Rattle.printer.specs.declared.state.State as Code
-use Rattle.printer.specs.declared.state.Status.{Status}
-use Rattle.printer.specs.declared.state.Status.TheVariants.{Going as IsGoing, Invalid, RecursedTooDeep, Full, Other}
-use Rattle.printer.specs.declared.state.Printer.{Printer}
-use Rattle.printer.specs.Says.{U, Says}
-use Rattle.printer.specs.Lay.{State, state_of, code_of, filled, World, world, at, lay}
-use Rattle.printer.specs.Numbers.{numbered, at_numbers}
-use Rattle.pieces.specs.declared.mode.Mode.{Mode}
 
 -- ---- a status by its number
 module _ (n : ℕ) where

@@ -111,7 +111,7 @@ module _ (s : List ℕ) (at m : ℕ) (eaten : m ≡ past 67 s at) where
 
 pub ruleset abi_laws = (abi-c, abi-none, abi-empty, abi-coded, abi-named, rules)
 
--- m is what `eat` answered, r what `abi` answered
+-- m is what `eat` answered, r what `some_abi` answered
 module _ (s : List ℕ) (at m : ℕ) (eaten : m ≡ past 75 s at) where
   pub behind-none : m ≡ at → read None at ≡ behind_unsafe s at
   unfolding behind_unsafe

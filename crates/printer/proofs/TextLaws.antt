@@ -8,7 +8,6 @@ use mathlib.Core.List.{List, [], ◌∷◌}
 use borrow.Author.Rules.{rules}
 use borrow.Author.Tests.{ne_eqb}
 use Rattle.pieces.specs.Words as W
-use Rattle.pieces.specs.declared.words.Word.{Word}
 use Rattle.pieces.specs.declared.mode.Mode.TheVariants.{Plain, Short}
 use Rattle.pieces.specs.Laid.{Put, Wrote}
 use lib.ListN.{length}
@@ -17,7 +16,7 @@ use Rattle.pieces.specs.Piece.{Piece, word, run, hash, basic, kind, spell, spell
 use Rattle.printer.specs.Lay.{State}
 use Rattle.printer.specs.Says.{emit, on_error, breaks, broken}
 use Rattle.printer.specs.Lay.{World, world, lay, failed_at, sum_of, settled_by}
-use Rattle.printer.specs.Model.{say_if}
+use Rattle.printer.specs.Model.{piece_if}
 use Rattle.printer.proofs.LayLaws.{lay-nil, lay-spell, lay-same, lay-breaks, render-nil, doing-run}
 use Rattle.printer.proofs.ArmLaws.{arm_full, arm-error}
 use Rattle.printer.proofs.StateLaws.{Halted, tests}
@@ -66,11 +65,11 @@ kind-plain m c v w h p = rw h (p ∙ lay-spell (Some Plain) (basic c ∷ []) (ki
 pub ruleset kind_laws = (kind-short, kind-off, kind-plain, tests, rules)
 
 -- ---- a word by a test
-pub if-true : (m : Option Mode) (t : Bool) (k : Word) (v w : World) → t ≡ true → w ≡ lay m (emit (word k ∷ [])) v → w ≡ lay m (say_if t k) v
-if-true m t k v w h p = rw h p
+pub if-true : (m : Option Mode) (t : Bool) (x : Piece) (v w : World) → t ≡ true → w ≡ lay m (emit (x ∷ [])) v → w ≡ lay m (piece_if t x) v
+if-true m t x v w h p = rw h p
 
-pub if-false : (m : Option Mode) (t : Bool) (k : Word) (v : World) → t ≡ false → v ≡ lay m (say_if t k) v
-if-false m t k v h = rw h (sym (lay-nil m v))
+pub if-false : (m : Option Mode) (t : Bool) (x : Piece) (v : World) → t ≡ false → v ≡ lay m (piece_if t x) v
+if-false m t x v h = rw h (sym (lay-nil m v))
 
 pub ruleset if_laws = (if-true, if-false, rules)
 

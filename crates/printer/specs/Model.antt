@@ -30,8 +30,11 @@ use Rattle.printer.specs.declared.kinds.Item.TheVariants.{Ty as AType, Arg, Expr
 abbrev pub say : Word → Says U
 say k = emit (word k ∷ [])
 
+abbrev pub piece_if : Bool → Piece → Says U
+piece_if t p = emit (if-then t (p ∷ []) [])
+
 abbrev pub say_if : Bool → Word → Says U
-say_if t k = emit (if-then t (word k ∷ []) [])
+say_if t k = piece_if t (word k)
 
 -- a special namespace: `closure`, `shim`, or its letter
 unfoldable pub space_name : ℕ → Piece

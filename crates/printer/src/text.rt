@@ -10,7 +10,7 @@ ghost use Rattle.pieces.specs.Numeral.{hash_text};
 ghost use Rattle.pieces.specs.Piece.{Piece, word, letter, run, abi, name, number, hash, life, basic, kind, quote, spell};
 ghost use Rattle.printer.specs.Says.{emit, on_error, breaks, broken};
 ghost use Rattle.printer.specs.Lay.{at, lay};
-ghost use Rattle.printer.specs.Model.{say_if};
+ghost use Rattle.printer.specs.Model.{piece_if, say_if};
 
 use crate::state::Printer;
 use pieces::mode::Mode;
@@ -30,6 +30,18 @@ impl Text for Word {
 
     fn put(self, out: &mut [u8]) -> Put {
         self.lay(out)
+    }
+}
+
+// A word by its number: nothing from 52 on, where there is none.
+#[derive(Clone, Copy)]
+pub struct Numbered(pub usize);
+
+impl Text for Numbered {
+    ghost piece = { λ k. run (W.word_by k.0) };
+
+    fn put(self, out: &mut [u8]) -> Put {
+        pieces::words::put_word(out, self.0)
     }
 }
 
@@ -196,8 +208,8 @@ impl Printer<'_> {
 
     // A word, where a test holds.
     #[tactic(auto, using(crate::proofs::TextLaws::if_laws))]
-    pub fn word_if(&mut self, test: bool, k: Word, mode: Option<Mode>)
-        ensures says { at self.new ≡ lay mode (say_if test k) (at self.old) }
+    pub fn word_if<T: Text>(&mut self, test: bool, k: T, mode: Option<Mode>)
+        ensures says { at self.new ≡ lay mode (piece_if test (T.piece k)) (at self.old) }
         ensures lent { self.new.out.ghost_name ≡ self.old.out.ghost_name }
     {
         if test {
@@ -207,8 +219,8 @@ impl Printer<'_> {
 
     // What stands before an element of a list: nothing before the first.
     #[tactic(auto, using(crate::proofs::TextLaws::if_laws))]
-    pub fn separator(&mut self, i: usize, k: Word, mode: Option<Mode>)
-        ensures says { at self.new ≡ lay mode (say_if (not (eqb i 0)) k) (at self.old) }
+    pub fn separator<T: Text>(&mut self, i: usize, k: T, mode: Option<Mode>)
+        ensures says { at self.new ≡ lay mode (piece_if (not (eqb i 0)) (T.piece k)) (at self.old) }
         ensures lent { self.new.out.ghost_name ≡ self.old.out.ghost_name }
     {
         self.word_if(i != 0, k, mode);
@@ -225,8 +237,8 @@ impl Printer<'_> {
 
     // A word, where an error is set.
     #[tactic(auto, using(crate::proofs::TextLaws::error_laws))]
-    pub fn on_error(&mut self, k: Word, mode: Option<Mode>)
-        ensures says { at self.new ≡ lay mode (on_error (word k ∷ [])) (at self.old) }
+    pub fn on_error<T: Text>(&mut self, k: T, mode: Option<Mode>)
+        ensures says { at self.new ≡ lay mode (on_error (T.piece k ∷ [])) (at self.old) }
         ensures lent { self.new.out.ghost_name ≡ self.old.out.ghost_name }
     {
         if self.st.stopped() {

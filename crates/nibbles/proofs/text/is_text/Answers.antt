@@ -1,6 +1,6 @@
--- `nibbles::text::is_text` meets its contract.
-use Rattle.nibbles.proofs.StepLaws.{quick-on}
+-- `nibbles::text::is_text` meets its contract. What the loop keeps is a record, which `using` does not close by.
+use Rattle.nibbles.proofs.StepLaws.{text_laws}
 use Rattle.nibbles.proofs.text.is_text.Goals as goal
 
 pub loop-at-preserved-in-loop-at : goal.loop-at-preserved-in-loop-at
-loop-at-preserved-in-loop-at c = quick-on c.loop-at.invariant c.loop-at-test.true c.octet.ensures c.in-Some.is c.if-b-lt128.true
+loop-at-preserved-in-loop-at c = search text_laws
