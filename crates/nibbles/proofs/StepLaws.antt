@@ -298,8 +298,11 @@ module _ {s : List ℕ} {at : ℕ} (a : Along s at) where
           let w = one-within s at here-is in
           omega (arith, w.on, w.there)
 
--- g is what `octet` answered: a byte, which is a character by itself if it is small
-module _ {s : List ℕ} {at : ℕ} (a : Along s at) {g : Option ℕ} (read : g ≡ octet_at s at) {b : ℕ} (known : g ≡ Some b) (small : b < 0x80) where
+-- g is what `octet` answered: a byte, which is a character by itself if it is small; m is the bound that the code asks of it
+module _ {s : List ℕ} {at : ℕ} (a : Along s at) {g : Option ℕ} (read : g ≡ octet_at s at) {b : ℕ} (known : g ≡ Some b) {m : ℕ} (under : b < m) (few : m ≤ 0x80) where
+  small : b < 0x80
+  small = omega (arith, under, few)
+
   there : at < length s
   there = omega (arith, (holds s at read known).fit)
 

@@ -7,7 +7,7 @@ use native.Mathlib.Omega.{arith}
 use borrow.Author.Rules.{rules}
 use lib.Dec.{T}
 use lib.ListN.{get_or, length}
-use Rattle.std.specs.Prelude.{Option, Some, None, Ok}
+use Rattle.std.specs.Prelude.{Option, Some, None}
 use Rattle.pieces.specs.declared.words.Word.{Word}
 use Rattle.pieces.specs.declared.words.Word.TheVariants.{Invalid, Deep, Splat}
 use Rattle.pieces.specs.Laid.{Put, Wrote}
@@ -72,8 +72,8 @@ module _ (k : ℕ) where
   unfolding word_by words
   word_numbered w h t = rw (in-order words k w h) at t
 
-  pub word_beyond : (d : List ℕ) → 52 ≤ k → Wrote (word_by k) d d (Ok 0)
+  pub word_beyond : {d e : List ℕ} {r : Put} → 52 ≤ k → Wrote [] d e r → Wrote (word_by k) d e r
   unfolding word_by words
-  word_beyond d h = rw (past-all words k h) (wrote_none d)
+  word_beyond h t = rw (past-all words k h) t
 
-pub ruleset number_laws = (word_numbered, word_beyond, rules)
+pub ruleset number_laws = (word_numbered, word_beyond, wrote_none, rules)
