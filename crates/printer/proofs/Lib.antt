@@ -2,6 +2,7 @@
 pub mod ReadLaws
 pub mod StateLaws
 pub mod NumberLaws
+pub mod ErrorLaws
 pub mod OverLaws
 pub mod LayLaws
 pub mod PieceLaws

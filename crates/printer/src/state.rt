@@ -11,7 +11,8 @@ ghost use Rattle.printer.specs.Lay.{state_of, full_state, moved_to, failed_at, c
 use pieces::put::{NoRoom, Put};
 
 // Whether the printer goes on; or the error that it has met; or that the buffer is full: such a state says nothing else. An error of
-// another number, 4 at least, is set by nothing here, but a state that is given by number (numbers.rt) may have it.
+// another number, 4 at least, comes with a state that is given by number (numbers.rt): no method sets it where it was not
+// (proofs/ErrorLaws.antt).
 #[derive(Clone, Copy, Debug, PartialEq, Eq)]
 pub enum Status {
     Going,

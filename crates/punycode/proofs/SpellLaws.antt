@@ -49,7 +49,18 @@ pub record Spelling (s places : List ℕ) (whole : Spelt) (n i bias at len : ℕ
   pub i-small : i < 2 ^ 32
   pub bias-small : bias < bias-limit
 
-module _ {s places : List ℕ} {whole : Spelt} {n i bias at len : ℕ} (r : Spelling s places whole n i bias at len) where
+-- what a turn asks of it: all but the bound of the bias
+pub record Turning (s places : List ℕ) (whole : Spelt) (n i bias at len : ℕ) : Type 0 where
+  pub left : rounds (most - len) n i bias (take len places) (drop at s) ≡ whole
+  pub all : length places ≡ most
+  pub few : len ≤ most
+  pub n-small : n < 2 ^ 32
+  pub i-small : i < 2 ^ 32
+
+pub turning : {s places : List ℕ} {whole : Spelt} {n i bias at len : ℕ} → Spelling s places whole n i bias at len → Turning s places whole n i bias at len
+turning r = record { left = r.left; all = r.all; few = r.few; n-small = r.n-small; i-small = r.i-small }
+
+module _ {s places : List ℕ} {whole : Spelt} {n i bias at len : ℕ} (r : Turning s places whole n i bias at len) where
   count : length (take len places) ≡ len
   count = length-take-le len places (omega (arith, r.all, r.few))
 
