@@ -184,7 +184,7 @@ record AtLevel (p : g.Level) : Type 0 where
 module _ (s : List ℕ) where
   eat-few : (k : ℕ) → Few (g.eat s k)
   unfolding g.eat
-  eat-few k = record { runs = λ i. if-two (eqb (past k s i) i) (ok false i false []) (ok true (past k s i) false []) tt tt; turns = λ x l. l }
+  eat-few k = record { runs = λ i. if-two (eqb (past k s i) i) _ _ tt tt; turns = λ x l. l }
 
   tag-few : {A : Type 0} (z : A) (ts : Tags A) (d : ℕ → ℕ → ℕ → Res A) → AllFew ts → ((c i j : ℕ) → Two (d c i j)) → Few (g.by_tag s z ts d)
   unfolding g.by_tag
@@ -267,27 +267,21 @@ module _ (s : List ℕ) where
   }
 
   module _ (p : g.Level) (l : AtLevel p) where
-    path : (value f : Bool) (b : ℕ) → Few (p.path value f b)
-    path = l.path
-
-    con : (value f : Bool) (b : ℕ) → Few (p.con value f b)
-    con = l.con
-
     type-few : (f : Bool) (b : ℕ) → Few (g.type s p f b)
     unfolding g.type
     type-few f b = bind (eat-few _) (λ y. choose-few y (emit-few _ also l.bare f b) (l.bare f b))
 
     arg-few : (f : Bool) (b : ℕ) → Few (g.arg s p f b)
     unfolding g.arg
-    arg-few f b = or-few tt _ _ (lifetime-few f b or con false f b or else) (type-few f b).runs
+    arg-few f b = or-few tt _ _ (lifetime-few f b or l.con false f b or else) (type-few f b).runs
 
     qself-few : (with f : Bool) (b : ℕ) → Few (g.qself s p with f b)
     unfolding g.qself g.trt
-    qself-few with f b = search (few_rules, type-few, path)
+    qself-few with f b = search (few_rules, type-few, l.path)
 
     binding-few : (opened f : Bool) (b : ℕ) → Few (g.binding s p opened f b)
     unfolding g.binding g.bound_name g.bound_to
-    binding-few opened f b = search (few_rules, eat-few, con, type-few)
+    binding-few opened f b = search (few_rules, eat-few, l.con, type-few)
 
     bindings-few : (k : ℕ) (opened f : Bool) (b : ℕ) → Few (g.bindings s p k opened f b)
     unfolding g.bindings
@@ -299,7 +293,7 @@ module _ (s : List ℕ) where
 
     pat-few : (f : Bool) (b : ℕ) → Few (g.pat s p f b)
     unfolding g.pat g.range
-    pat-few f b = tag-few tt _ _ ((con false f b also emit-few _ also con false f b) or l.ors f b or emit-few _ or else) unknown-two
+    pat-few f b = tag-few tt _ _ ((l.con false f b also emit-few _ also l.con false f b) or l.ors f b or emit-few _ or else) unknown-two
 
     alternatives-few : (k : ℕ) (f : Bool) (b : ℕ) → Few (g.alternatives s p k f b)
     unfolding g.alternatives
@@ -315,16 +309,16 @@ module _ (s : List ℕ) where
         bind
         (or-few false _ _
         (need-few _ false _ (λ i. from-two (back_at s i)) (l.open_at f b) or
-        (path false f b also emit-few _ also list-n-few _ (arg-few f b) (length s) 0 also give-few true) or else)
-        (path false f b also give-few false).runs)
+        (l.path false f b also emit-few _ also list-n-few _ (arg-few f b) (length s) 0 also give-few true) or else)
+        (l.path false f b also give-few false).runs)
         (λ o. bindings-few (length s) o f b)
 
     element-few : (k : Item) (f : Bool) (b : ℕ) → Few (g.element s p k f b)
     unfolding g.element g.field
     element-few AType f b = type-few f b
     element-few Arg f b = arg-few f b
-    element-few AValue f b = con true f b
-    element-few Field f b = search (few_rules, con)
+    element-few AValue f b = l.con true f b
+    element-few Field f b = search (few_rules, l.con)
     element-few Trait f b = trait-few f b
 
     list-few : (k : Item) (f : Bool) (b : ℕ) → Few (g.list s p k f b)
@@ -337,12 +331,12 @@ module _ (s : List ℕ) where
 
     braced-few : (tag : ℕ) (value f : Bool) (b : ℕ) → Few (g.braced_by s p tag value f b)
     unfolding g.braced_by g.body_by g.refer_to g.between
-    braced-few tag value f b = search (few_rules, unsized-few, list-few, tuple-few, con)
+    braced-few tag value f b = search (few_rules, unsized-few, list-few, tuple-few, l.con)
 
     -- ---- a level more
     paths-few : (value f : Bool) (b : ℕ) → AllFew (g.path_tags s p value f b)
     unfolding g.path_tags g.nest g.imp g.generic g.back
-    paths-few value f b = search (few_rules, else, ◌or◌, krate-few, nested-few, path, qself-few, list-few, l.aim) depth 12
+    paths-few value f b = search (few_rules, else, ◌or◌, krate-few, nested-few, l.path, qself-few, list-few, l.aim) depth 12
 
     variant-few : (value f : Bool) (b : ℕ) → Few (g.variant s p value f b)
     unfolding g.variant g.fields g.between
@@ -350,11 +344,11 @@ module _ (s : List ℕ) where
 
     consts-few : (value f : Bool) (b : ℕ) → AllFew (g.const_tags s p value f b)
     unfolding g.const_tags g.ref_const g.adt g.back
-    consts-few value f b = search (few_rules, else, ◌or◌, eat-few, boolean-few, character-few, literal-few, braced-few, variant-few, path, l.aim) depth 20
+    consts-few value f b = search (few_rules, else, ◌or◌, eat-few, boolean-few, character-few, literal-few, braced-few, variant-few, l.path, l.aim) depth 20
 
     types-few : (f : Bool) (b : ℕ) → AllFew (g.type_tags s p f b)
     unfolding g.type_tags g.refer g.pointer g.array g.size g.function g.signature g.parameters g.result g.arrow g.object g.traits g.patterned g.back
-    types-few f b = search (few_rules, else, ◌or◌, eat-few, reference-few, head-few, bound-few, type-few, con, list-few, tuple-few, pat-few, l.aim) depth 24
+    types-few f b = search (few_rules, else, ◌or◌, eat-few, reference-few, head-few, bound-few, type-few, l.con, list-few, tuple-few, pat-few, l.aim) depth 24
 
   basic-two : (d : ℕ → ℕ → ℕ → Res U) → ((c i j : ℕ) → Two (d c i j)) → (c i j : ℕ) → Two (g.basic_or s d c i j)
   unfolding g.basic_or

@@ -40,16 +40,7 @@ module _ (n i bias : ℕ) (out s : List ℕ) (at : ℕ) (h : at < length s) wher
   rounds-turn zero e = round-some (after zero out) ∙ sym (ap (go_on (after zero out)) e)
   rounds-turn (suc room) e = round-some (after (suc room) out) ∙ sym (ap (go_on (after (suc room) out)) e)
 
--- ---- the code's loop: what is left to decode is the whole, and the numbers are small
-pub record Spelling (s places : List ℕ) (whole : Spelt) (n i bias at len : ℕ) : Type 0 where
-  pub left : rounds (most - len) n i bias (take len places) (drop at s) ≡ whole
-  pub all : length places ≡ most
-  pub few : len ≤ most
-  pub n-small : n < 2 ^ 32
-  pub i-small : i < 2 ^ 32
-  pub bias-small : bias < bias-limit
-
--- what a turn asks of it: all but the bound of the bias
+-- ---- the code's loop: what is left to decode is the whole, and the numbers are small. A turn asks nothing of the bias
 pub record Turning (s places : List ℕ) (whole : Spelt) (n i bias at len : ℕ) : Type 0 where
   pub left : rounds (most - len) n i bias (take len places) (drop at s) ≡ whole
   pub all : length places ≡ most
@@ -57,8 +48,9 @@ pub record Turning (s places : List ℕ) (whole : Spelt) (n i bias at len : ℕ)
   pub n-small : n < 2 ^ 32
   pub i-small : i < 2 ^ 32
 
-pub turning : {s places : List ℕ} {whole : Spelt} {n i bias at len : ℕ} → Spelling s places whole n i bias at len → Turning s places whole n i bias at len
-turning r = record { left = r.left; all = r.all; few = r.few; n-small = r.n-small; i-small = r.i-small }
+pub record Spelling (s places : List ℕ) (whole : Spelt) (n i bias at len : ℕ) : Type 0 where
+  pub turning : Turning s places whole n i bias at len
+  pub bias-small : bias < bias-limit
 
 module _ {s places : List ℕ} {whole : Spelt} {n i bias at len : ℕ} (r : Turning s places whole n i bias at len) where
   count : length (take len places) ≡ len
@@ -107,11 +99,14 @@ module _ {s places : List ℕ} {whole : Spelt} {n i bias at len : ℕ} (r : Turn
           let z = small in
           let room : most - len ≡ suc (most - (len + 1)) = omega arith in
           record {
-            left = rw p (sym (rounds-turn n i bias (take len places) s at h (suc (most - (len + 1))) (rw e at found)) ∙ rw room at r.left);
-            all = q;
-            few = omega arith;
-            n-small = omega arith;
-            i-small = omega (arith, place-within);
+            turning =
+                record {
+                  left = rw p (sym (rounds-turn n i bias (take len places) s at h (suc (most - (len + 1))) (rw e at found)) ∙ rw room at r.left);
+                  all = q;
+                  few = omega arith;
+                  n-small = omega arith;
+                  i-small = omega (arith, place-within);
+                };
             bias-small = omega arith;
           }
 
